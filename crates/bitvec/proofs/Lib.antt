@@ -1,0 +1,4 @@
+pub mod Inverses
+pub mod Laws
+pub mod Text
+pub mod SmtLib

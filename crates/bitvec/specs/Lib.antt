@@ -1,0 +1,4 @@
+pub mod Word
+pub mod Inverse
+pub mod Debug
+pub mod SmtLib
