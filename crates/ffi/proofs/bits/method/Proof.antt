@@ -1,0 +1,18 @@
+-- `ffi::bits::method` meets its contract. Assumes nothing.
+use Rattle.ffi.proofs.Choosing.{choosing}
+use borrow.Author.Needs.{needs}
+use Rattle.ffi.proofs.bits.method.Statement.{statement}
+use Rattle.ffi.proofs.bits.method.Tie as tie
+
+pub method-spec : {M : Type 1} → statement M
+method-spec =
+    tie.close
+    (tie.spec (λ c κs. search needs) (λ c. search (choosing, needs) depth 14) (λ c κs. search needs)
+    (λ c. search needs) (λ c. search (choosing, needs) depth 14) (λ c κs. search needs) (λ c. search needs)
+    (λ c. search (choosing, needs) depth 14) (λ c κs. search needs)
+    (λ c. search (choosing, needs) depth 14) (λ c κs. search needs)
+    (λ c. search (choosing, needs) depth 14) (λ c κs. search needs) (λ c. search needs)
+    (λ c. search (choosing, needs) depth 14) (λ c κs. search needs) (λ c. search needs)
+    (λ c. search (choosing, needs) depth 14) (λ c κs. search needs)
+    (λ c. search (choosing, needs) depth 14)
+    (λ c. search (choosing, needs) depth 14))

@@ -1,0 +1,11 @@
+-- `ffi::bits::text_byte` meets its contract. Assumes nothing.
+use Rattle.ffi.proofs.Texts.{byte-inside, byte-found, byte-none}
+use borrow.Author.Needs.{needs}
+use Rattle.ffi.proofs.bits.text_byte.Statement.{statement}
+use Rattle.ffi.proofs.bits.text_byte.Tie as tie
+
+pub text-byte-spec : {M : Type 1} → statement M
+text-byte-spec =
+    tie.close
+    (tie.spec (λ c κs. search needs) (λ c. search (byte-inside, needs)) (λ c. search needs) (λ c. search (byte-found, needs))
+    (λ c. search (byte-none, needs)))

@@ -1,0 +1,2 @@
+pub mod Bitvec
+pub mod Out

@@ -1,0 +1,11 @@
+-- What an adapter leaves in the lent buffer. Assumes nothing.
+use Prim.Native.Nat.{ℕ}
+use mathlib.Core.List.{List}
+use lib.ListN.{set}
+use Rattle.ffi.specs.declared.bits.Found.{Found}
+use Rattle.ffi.specs.declared.bits.Found.the-variants.{Value, Nothing}
+
+-- the answer's number at 0 and its value at 1; entries that the buffer lacks are not written
+abbrev pub written : Found → List ℕ → List ℕ
+written (Value v) out = set (set out 0 1) 1 v
+written Nothing out = set (set out 0 0) 1 0

@@ -1,0 +1,42 @@
+// What Rust calls, for the comparison and the benchmark: few adapters, an operation's number and its arguments in, the answer's
+// number and fields into a lent buffer.
+ghost use mathlib.Core.Path.{_≡_};
+ghost use lib.ListN.{set};
+ghost use Rattle.ffi.specs.Bitvec.{bitvecOp};
+ghost use Rattle.ffi.specs.Out.{written};
+
+pub mod bits;
+
+use bits::Found;
+
+// Stores an entry; past the end of the buffer, nothing.
+fn put(out: &mut [u64], i: usize, v: u64)
+    ensures { λ _. ⌜ now (out .exit) ≡ set (now (out .entry)) i v ⌝ }
+{
+    if i < out.len() {
+        out[i] = v;
+    }
+}
+
+fn write(found: Found, out: &mut [u64])
+    ensures { λ _. ⌜ now (out .exit) ≡ written found (now (out .entry)) ⌝ }
+{
+    match found {
+        Found::Value(v) => {
+            put(out, 0, 1);
+            put(out, 1, v);
+        }
+        Found::Nothing => {
+            put(out, 0, 0);
+            put(out, 1, 0);
+        }
+    }
+}
+
+// An operation of BitVector by its number (specs/Bitvec.antt): 1 and its value, or 0 and 0.
+#[no_mangle]
+pub extern "C" fn bitvec_op(op: u64, a: u64, b: u64, out: &mut [u64])
+    ensures { λ _. ⌜ now (out .exit) ≡ written (bitvecOp op a b) (now (out .entry)) ⌝ }
+{
+    write(bits::operation(op, a, b), out);
+}
