@@ -1,0 +1,19 @@
+//! Compares the proved crates with the original Rust.
+
+mod bitvec;
+mod numbers;
+mod ours;
+mod report;
+
+fn main() {
+    monster::refuse_other_builds();
+    let command = std::env::args().nth(1).unwrap_or_default();
+    let equal = match command.as_str() {
+        "bitvec" => bitvec::compare(),
+        _ => {
+            eprintln!("usage: compare bitvec");
+            std::process::exit(2);
+        }
+    };
+    std::process::exit(if equal { 0 } else { 1 });
+}

@@ -1,0 +1,164 @@
+//! Section "The graph file", with refusals 1 to 7 of "Numbers of refusal".
+
+use crate::operators::Operator;
+pub use crate::refusals::Refusal;
+
+/// "Record i is node i": a node, with the ids of its operands.
+#[derive(Clone, Copy, Debug, PartialEq, Eq)]
+pub enum Node {
+    /// "Constants hold their value"
+    Constant(u64),
+    /// "inputs a label (u64, may repeat)"
+    Input(u64),
+    /// Not: "left (or only) operand"
+    Unary(usize),
+    /// "binary ones the right" operand too
+    Binary(Operator, usize, usize),
+}
+
+/// The decoded file: "n records", the root, and the nodes by id.
+#[derive(Clone, Debug, PartialEq, Eq)]
+pub struct Graph {
+    pub count: usize,
+    pub root: usize,
+    pub nodes: Vec<Node>,
+}
+
+/// "Checks run in this order. Records are scanned upward; 4 before 5 within
+/// one; the first bad id is named."
+pub fn check(file: &[u8]) -> Result<Graph, Refusal> {
+    // "1 Size | file under 16 or over 65,536 bytes"
+    if file.len() < 16 || file.len() > 65_536 {
+        return Err(Refusal::Size);
+    }
+    // "Trailer: u32 distance back from its start to the first record (16n),
+    // u32 root, u32 version 1, u32 zero."
+    let trailer = file.len() - 16;
+    let distance = u32_at(file, trailer);
+    let root = u32_at(file, trailer + 4);
+    let version = u32_at(file, trailer + 8);
+    let last = u32_at(file, trailer + 12);
+    // "2 Trailer | version not 1, or last field not zero"
+    if version != 1 || last != 0 {
+        return Err(Refusal::Trailer);
+    }
+    // "3 Span | distance 0, not a multiple of 16, over 64,000, or over length − 16"
+    if distance == 0 || distance % 16 != 0 || distance > 64_000 || distance > trailer {
+        return Err(Refusal::Span);
+    }
+    // 4 and 5: "Records are scanned upward"
+    let count = distance / 16;
+    let first = trailer - distance;
+    let mut nodes = Vec::new();
+    for id in 0..count {
+        let record = &file[first + 16 * id..first + 16 * id + 16];
+        nodes.push(node(record, id)?);
+    }
+    // "6 Root | root ≥ n"
+    if root >= count {
+        return Err(Refusal::Root);
+    }
+    // "7 FixedRoot | root is a constant other than 1"
+    if let Node::Constant(value) = nodes[root] {
+        if value != 1 {
+            return Err(Refusal::FixedRoot);
+        }
+    }
+    Ok(Graph { count, root, nodes })
+}
+
+/// One record: "4 before 5 within one".
+fn node(record: &[u8], id: usize) -> Result<Node, Refusal> {
+    // "4 Record(id) | unknown kind or a non-zero byte that must be zero"
+    let kind = record[0];
+    if kind > 10 || (0..16).any(|byte| !holds(kind, byte) && record[byte] != 0) {
+        return Err(Refusal::Record(id));
+    }
+    let node = match Operator::of(kind) {
+        // "0 Constant, 1 Input"
+        None if kind == 0 => Node::Constant(u64_at(record, 8)),
+        None => Node::Input(u64_at(record, 8)),
+        Some(Operator::Not) => Node::Unary(u32_at(record, 4)),
+        Some(op) => Node::Binary(op, u32_at(record, 4), u32_at(record, 8)),
+    };
+    // "5 Order(id) | an operand id not below its own"
+    if operands(&node).iter().any(|operand| *operand >= id) {
+        return Err(Refusal::Order(id));
+    }
+    Ok(node)
+}
+
+/// Whether a byte of a record holds something; "All other bytes are zero."
+pub fn holds(kind: u8, byte: usize) -> bool {
+    match (kind, byte) {
+        // "Byte 0 is the kind"
+        (_, 0) => true,
+        // "Constants hold their value, inputs a label …, in 8 to 15."
+        (0 | 1, 8..=15) => true,
+        // "left (or only) operand as u32 in bytes 4 to 7"
+        (2..=10, 4..=7) => true,
+        // "binary ones the right in 8 to 11"
+        (2..=7 | 9 | 10, 8..=11) => true,
+        _ => false,
+    }
+}
+
+/// The ids of a node's operands, left first.
+pub fn operands(node: &Node) -> Vec<usize> {
+    match *node {
+        Node::Constant(_) | Node::Input(_) => vec![],
+        Node::Unary(operand) => vec![operand],
+        Node::Binary(_, left, right) => vec![left, right],
+    }
+}
+
+/// "an optional note, n records of 16 bytes, a 16-byte trailer": the file of a
+/// graph. What it writes for a graph that breaks a rule, `check` refuses.
+pub fn encode(graph: &Graph, note: &[u8]) -> Vec<u8> {
+    let mut file = note.to_vec();
+    for node in &graph.nodes {
+        file.extend(record(node));
+    }
+    for field in [16 * graph.nodes.len(), graph.root, 1, 0] {
+        file.extend((field as u32).to_le_bytes());
+    }
+    file
+}
+
+/// "n records of 16 bytes": the record of one node.
+pub fn record(node: &Node) -> [u8; 16] {
+    let mut bytes = [0; 16];
+    bytes[0] = match node {
+        Node::Constant(_) => 0,
+        Node::Input(_) => 1,
+        Node::Unary(_) => Operator::Not.kind(),
+        Node::Binary(op, _, _) => op.kind(),
+    };
+    if let Node::Constant(held) | Node::Input(held) = node {
+        bytes[8..16].copy_from_slice(&held.to_le_bytes());
+    }
+    for (place, id) in operands(node).into_iter().enumerate() {
+        let from = 4 + 4 * place;
+        bytes[from..from + 4].copy_from_slice(&(id as u32).to_le_bytes());
+    }
+    bytes
+}
+
+/// A graph of these nodes with this root.
+pub fn graph(nodes: Vec<Node>, root: usize) -> Graph {
+    Graph {
+        count: nodes.len(),
+        root,
+        nodes,
+    }
+}
+
+/// "little endian": the u32 at a byte.
+fn u32_at(bytes: &[u8], at: usize) -> usize {
+    (0..4).map(|i| usize::from(bytes[at + i]) << (8 * i)).sum()
+}
+
+/// "little endian": the u64 at a byte.
+fn u64_at(bytes: &[u8], at: usize) -> u64 {
+    (0..8).map(|i| u64::from(bytes[at + i]) << (8 * i)).sum()
+}
