@@ -108,6 +108,12 @@ module _ {X : Type 0} where
   never-append [] b d v w = w
   never-append (row c x ∷ a) b d v w = (v .0, never-append a b d (v .1) w)
 
+  -- a condition that holds is a row's
+  pub holds-within : (rows : List (Row X)) (i : ℕ) → holdsAt rows i ≡ true → i < length rows
+  holds-within [] i h = absurd (true≢false (sym h))
+  holds-within (row c x ∷ rows) zero h = omega arith
+  holds-within (row c x ∷ rows) (suc i) h = let p = holds-within rows i h in omega arith
+
   -- the rows of a joined table are those of its parts
   pub holds-left : (a b : List (Row X)) (i : ℕ) → i < length a → holdsAt (a ++ b) i ≡ holdsAt a i
   holds-left [] b i p = absurd (omega arith)

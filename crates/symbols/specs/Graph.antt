@@ -1,0 +1,41 @@
+-- The abstract graph: what a graph file says. Above the crate that reads files nothing speaks of bytes. Assumes nothing.
+use Prim.Native.Nat.{ℕ, _<_}
+use mathlib.Core.Path.{_≡_}
+use mathlib.Core.Logic.{_⊎_}
+use Rattle.symbols.specs.declared.BVOperator.{BVOperator}
+
+-- a node's id; a value of 64 bits
+abbrev pub Id : Type 0
+Id = ℕ
+
+abbrev pub Value : Type 0
+Value = ℕ
+
+-- a constant with its value, an input with its label, Not with its operand, any other operator with its two
+pub data Node : Type 0 where
+  constant : Value → Node
+  input : Value → Node
+  unary : Id → Node
+  binary : BVOperator → Id → Id → Node
+
+pub record Graph : Type 0 where
+  pub count : ℕ
+  pub root : Id
+  pub node : Id → Node
+
+-- j is an operand of the node
+abbrev pub Operand : Node → Id → Type 0
+Operand (constant c) j = ⊥
+Operand (input l) j = ⊥
+Operand (unary a) j = j ≡ a
+Operand (binary o a b) j = (j ≡ a) ⊎ (j ≡ b)
+
+-- i depends on j: it reaches j through operands
+pub data Depends (g : Graph) : Id → Id → Type 0 where
+  direct : (i j : Id) → Operand (g .node i) j → Depends g i j
+  through : (i k j : Id) → Operand (g .node i) k → Depends g k j → Depends g i j
+
+-- "An operand's id is below its node's id", and the root is one of the nodes
+pub record Ordered (g : Graph) : Type 0 where
+  pub below : (i j : Id) → i < g .count → Operand (g .node i) j → j < i
+  pub rooted : g .root < g .count
