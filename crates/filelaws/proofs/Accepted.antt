@@ -1,0 +1,78 @@
+-- What an accepted file is known to be: its bytes, and that its graph is ordered. Assumes nothing.
+use Prim.Native.Nat.{_-_, _%_, _≤_}
+use mathlib.Core.Path.{_≡_, sym, ap, subst, _∙_}
+use mathlib.Core.Bool.{true, false, not}
+use native.Mathlib.Omega.{arith}
+use lib.ListN.{length}
+use lib.Dec.{ltb, eqb}
+use borrow.Author.Tests.{ltb-false, eqb-true, eqb-false, not-false}
+use Rattle.symbols.specs.Graph.{Ordered}
+use Rattle.formula.specs.File.{File, Record, formulaOf, recordAt, distanceOf}
+use Rattle.formula.specs.Graph.{kindOf, nodeOf, graphOf}
+use Rattle.formula.specs.Refusals.{unknown, clean, badSpan, badRecord, accepted, verdict}
+use Rattle.formula.specs.declared.Formula.{Formula}
+use Rattle.filelaws.specs.Known.{Known}
+use Rattle.filelaws.proofs.Exactly.{accepted-formula}
+use Rattle.filelaws.proofs.Numbers.{accepted-when}
+use Rattle.filelaws.proofs.Meanings.{or-no, ordered-means}
+
+-- the distance of a good span
+pub record Spanned (f : File) : Type 0 where
+  pub some : distanceOf f ≡ 0 → ⊥
+  pub whole : distanceOf f % 16 ≡ 0
+  pub few : distanceOf f ≤ 64000
+  pub inside : distanceOf f ≤ length f - 16
+
+spanned : (f : File) → badSpan f ≡ false → Spanned f
+spanned f e =
+    let d = distanceOf f in
+    let h = or-no _ (ltb (length f - 16) d) e in
+    let k = or-no _ (ltb 64000 d) (h .0) in
+    let l = or-no (eqb d 0) _ (k .0) in
+    record {
+      some = eqb-false d 0 (l .0);
+      whole = eqb-true (d % 16) 0 (not-false _ (l .1));
+      few = ltb-false 64000 d (k .1);
+      inside = ltb-false (length f - 16) d (h .1);
+    }
+
+good : (r : Record) → badRecord r ≡ false → (unknown (kindOf r) ≡ false) × (clean (kindOf r) r ≡ true)
+good r e = let h = or-no (unknown (kindOf r)) (not (clean (kindOf r) r)) e in (h .0, not-false (clean (kindOf r) r) (h .1))
+
+known-whole : (f : File) → verdict f ≡ accepted (formulaOf f) → Known f (formulaOf f)
+unfolding formulaOf
+known-whole f e =
+    let w = accepted-when f .0 e in
+    let s = spanned f (w .0 .headed .span) in
+    let z = or-no (ltb (length f) 16) _ (w .0 .headed .size) in
+    let low = ltb-false (length f) 16 (z .0) in
+    let high = ltb-false 65536 (length f) (z .1) in
+    record {
+      some = let a = s .some in let b = s .whole in omega arith;
+      few = let a = s .few in omega arith;
+      filled = let b = s .whole in let c = s .inside in omega arith;
+      small = high;
+      rooted = w .1;
+      kinds = λ i p. good (recordAt f (formulaOf f) i) (w .0 .fine i p .known) .0;
+      zero = λ i p. good (recordAt f (formulaOf f) i) (w .0 .fine i p .known) .1;
+    }
+
+ordered-whole : (f : File) → verdict f ≡ accepted (formulaOf f) → Ordered (graphOf f (formulaOf f))
+unfolding graphOf
+ordered-whole f e =
+    let w = accepted-when f .0 e in
+    record { below = λ i j p h. ordered-means i j (nodeOf (recordAt f (formulaOf f) i)) (w .0 .fine i p .ordered) h; rooted = w .1 }
+
+module _ (f : File) (m : Formula) (e : verdict f ≡ accepted m) where
+  own : m ≡ formulaOf f
+  own = accepted-formula f m e
+
+  at-own : verdict f ≡ accepted (formulaOf f)
+  at-own = e ∙ ap accepted own
+
+  pub accepted-known : Known f m
+  accepted-known = subst (Known f) (sym own) (known-whole f at-own)
+
+  -- what the check accepts is an ordered graph
+  pub accepted-ordered : Ordered (graphOf f m)
+  accepted-ordered = subst (λ (w : Formula). Ordered (graphOf f w)) (sym own) (ordered-whole f at-own)

@@ -1,0 +1,42 @@
+-- Document 01, "The program": its graph, read by the definitions. Assumes nothing.
+use Prim.Native.Nat.{ℕ}
+use mathlib.Core.Path.{_≡_, refl}
+use mathlib.Core.List.{List, [], _∷_, _++_}
+use Rattle.laws.specs.Rows.{first}
+use Rattle.symbols.specs.Graph.{constant, input, binary}
+use Rattle.symbols.specs.declared.BVOperator.the-variants.{Add, Equals}
+use Rattle.formula.specs.File.{File, le32, le64, zeros, trailerOf, formulaOf, recordAt}
+use Rattle.formula.specs.Graph.{kindNo, graphOf}
+use Rattle.formula.specs.Refusals.{headRows, rowsOf, recordRows, rootRows, bodyRows, checks, accepted, refused, verdict}
+use Rattle.formula.specs.declared.Formula.{Formula}
+
+-- sixteen bytes: four small numbers, little endian
+abbrev sixteen : ℕ → ℕ → ℕ → ℕ → List ℕ → List ℕ
+sixteen a b c d rest = a ∷ 0 ∷ 0 ∷ 0 ∷ b ∷ 0 ∷ 0 ∷ 0 ∷ c ∷ 0 ∷ 0 ∷ 0 ∷ d ∷ 0 ∷ 0 ∷ 0 ∷ rest
+
+-- "0 Input label 40; 1 Constant 3; 2 Add(0,1); 3 Constant 10; 4 Equals(2,3); root 4"; the second operand of node 2 as given
+abbrev written : ℕ → List ℕ → File
+written b note =
+    note ++ sixteen 1 0 40 0 (sixteen 0 0 3 0 (sixteen 2 0 b 0 (sixteen 0 0 10 0 (sixteen 9 2 3 0 (sixteen 80 4 1 0 [])))))
+
+abbrev there : ℕ → Formula
+there n = record { first = n; count = 5; root = record { 0 = 4 } }
+
+pub example-accepted : verdict (written 1 []) ≡ accepted (there 0)
+unfolding verdict checks headRows bodyRows recordRows rowsOf rootRows formulaOf trailerOf recordAt graphOf kindNo le32 le64 zeros first
+example-accepted = refl
+
+-- the same after a note of three bytes
+pub example-noted : verdict (written 1 (7 ∷ 8 ∷ 9 ∷ [])) ≡ accepted (there 3)
+unfolding verdict checks headRows bodyRows recordRows rowsOf rootRows formulaOf trailerOf recordAt graphOf kindNo le32 le64 zeros first
+example-noted = refl
+
+-- node 2 as its own operand
+pub example-refused : verdict (written 2 []) ≡ refused 5 (2 ∷ [])
+unfolding verdict checks headRows bodyRows recordRows rowsOf rootRows formulaOf trailerOf recordAt graphOf kindNo le32 le64 zeros first
+example-refused = refl
+
+pub example-nodes : (graphOf (written 1 []) (there 0) .node 0 ≡ input 40) × (graphOf (written 1 []) (there 0) .node 1 ≡ constant 3)
+    × (graphOf (written 1 []) (there 0) .node 2 ≡ binary Add 0 1) × (graphOf (written 1 []) (there 0) .node 4 ≡ binary Equals 2 3)
+unfolding graphOf recordAt kindNo le32 le64
+example-nodes = (refl, refl, refl, refl)

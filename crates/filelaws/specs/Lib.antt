@@ -1,0 +1,3 @@
+pub mod Known
+pub mod Fine
+pub mod Faults

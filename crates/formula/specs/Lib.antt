@@ -1,0 +1,4 @@
+pub mod File
+pub mod Graph
+pub mod View
+pub mod Refusals
