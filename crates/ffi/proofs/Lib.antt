@@ -1,3 +1,4 @@
 pub mod Choosing
 pub mod Writing
 pub mod Texts
+pub mod Filing

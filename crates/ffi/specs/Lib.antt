@@ -1,2 +1,3 @@
 pub mod Bitvec
 pub mod Out
+pub mod Files

@@ -9,3 +9,10 @@ use Rattle.ffi.specs.declared.bits.Found.the-variants.{Value, Nothing}
 abbrev pub written : Found → List ℕ → List ℕ
 written (Value v) out = set (set out 0 1) 1 v
 written Nothing out = set (set out 0 0) 1 0
+
+-- three entries, six entries
+abbrev pub three : ℕ → ℕ → ℕ → List ℕ → List ℕ
+three a b c out = set (set (set out 0 a) 1 b) 2 c
+
+abbrev pub six : ℕ → ℕ → ℕ → ℕ → ℕ → ℕ → List ℕ → List ℕ
+six a b c d e f out = set (set (set (three a b c out) 3 d) 4 e) 5 f

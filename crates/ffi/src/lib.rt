@@ -1,22 +1,15 @@
 // What Rust calls, for the comparison and the benchmark: few adapters, an operation's number and its arguments in, the answer's
 // number and fields into a lent buffer.
 ghost use mathlib.Core.Path.{_≡_};
-ghost use lib.ListN.{set};
 ghost use Rattle.ffi.specs.Bitvec.{bitvecOp};
 ghost use Rattle.ffi.specs.Out.{written};
 
 pub mod bits;
+pub mod files;
+pub mod out;
 
 use bits::Found;
-
-// Stores an entry; past the end of the buffer, nothing.
-fn put(out: &mut [u64], i: usize, v: u64)
-    ensures { λ _. ⌜ now (out .exit) ≡ set (now (out .entry)) i v ⌝ }
-{
-    if i < out.len() {
-        out[i] = v;
-    }
-}
+use out::put;
 
 fn write(found: Found, out: &mut [u64])
     ensures { λ _. ⌜ now (out .exit) ≡ written found (now (out .entry)) ⌝ }

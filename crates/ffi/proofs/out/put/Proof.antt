@@ -1,8 +1,8 @@
--- `ffi::put` meets its contract. Assumes nothing.
+-- `ffi::out::put` meets its contract. Assumes nothing.
 use Rattle.laws.proofs.Lists.{set-past}
 use borrow.Author.Needs.{needs}
-use Rattle.ffi.proofs.put.Statement.{statement}
-use Rattle.ffi.proofs.put.Tie as tie
+use Rattle.ffi.proofs.out.put.Statement.{statement}
+use Rattle.ffi.proofs.out.put.Tie as tie
 
 pub put-spec : {M : Type 1} → statement M
 put-spec =
