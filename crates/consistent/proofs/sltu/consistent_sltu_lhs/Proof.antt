@@ -1,0 +1,12 @@
+-- `consistent::sltu::consistent_sltu_lhs` meets its contract. Assumes nothing.
+use borrow.Author.Needs.{needs}
+use Rattle.consistent.proofs.Rows.{sltu-lhs-not, sltu-lhs-is}
+use Rattle.consistent.proofs.sltu.consistent_sltu_lhs.Statement.{statement}
+use Rattle.consistent.proofs.sltu.consistent_sltu_lhs.Tie as tie
+
+pub consistent-sltu-lhs-spec : {M : Type 1} → statement M
+consistent-sltu-lhs-spec =
+    tie.close
+    (tie.spec (λ c κs. search needs) (λ c. search needs) (λ c. search needs) (λ c. search (sltu-lhs-not, needs)) (λ c. search (sltu-lhs-not, needs))
+    (λ c. search needs) (λ c κs. search needs) (λ c. search needs) (λ c. search needs) (λ c. search (sltu-lhs-is, needs))
+    (λ c. search (sltu-lhs-is, needs)))

@@ -1,0 +1,4 @@
+pub mod Choice
+pub mod Answered
+pub mod Alike
+pub mod Exactly
