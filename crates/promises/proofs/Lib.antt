@@ -1,0 +1,7 @@
+pub mod Splits
+pub mod Gives
+pub mod Exact
+pub mod Kept
+pub mod Free
+pub mod Choice
+pub mod Unary

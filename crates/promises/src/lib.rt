@@ -1,0 +1,1 @@
+// What the value rules promise; the theorems are in proofs/.
