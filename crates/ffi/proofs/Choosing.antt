@@ -8,14 +8,13 @@ use lib.Dec.{eqb}
 use borrow.Author.Tests.{eq-eqb, ne-eqb}
 use Rattle.laws.specs.Rows.{Row, row, first}
 use Rattle.laws.proofs.Rows.{first-next, first-none}
-use Rattle.ffi.specs.declared.bits.Found.{Found}
 use Rattle.ffi.specs.declared.bits.Found.the-variants.{Value}
 
-pub taken : (op k : ℕ) (x y : Found) (rest : List (Row Found)) (d : Found) → op ≡ k → y ≡ x → y ≡ first (row (eqb op k) x ∷ rest) d
+pub taken : {X : Type 0} (op k : ℕ) (x y : X) (rest : List (Row X)) (d : X) → op ≡ k → y ≡ x → y ≡ first (row (eqb op k) x ∷ rest) d
 unfolding first
 taken op k x y rest d h e = rw (eq-eqb op k h) e
 
-pub passed : (op k : ℕ) (x y : Found) (rest : List (Row Found)) (d : Found) → (op ≡ k → ⊥) → y ≡ first rest d → y ≡ first (row (eqb op k) x ∷ rest) d
+pub passed : {X : Type 0} (op k : ℕ) (x y : X) (rest : List (Row X)) (d : X) → (op ≡ k → ⊥) → y ≡ first rest d → y ≡ first (row (eqb op k) x ∷ rest) d
 passed op k x y rest d h e = first-next (eqb op k) x rest d y (ne-eqb op k h) e
 
 pub told : (b c : Bool) → b ≡ c → Value (boolByte b) ≡ Value (boolByte c)

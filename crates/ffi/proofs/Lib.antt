@@ -2,3 +2,4 @@ pub mod Choosing
 pub mod Writing
 pub mod Texts
 pub mod Filing
+pub mod Asking

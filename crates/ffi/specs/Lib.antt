@@ -1,3 +1,4 @@
 pub mod Bitvec
 pub mod Out
 pub mod Files
+pub mod Rules
