@@ -13,7 +13,7 @@ ghost use Rattle.laws.specs.Pick.{pick};
 ghost use Rattle.formula.specs.File.{recordAt};
 ghost use Rattle.formula.specs.Graph.{nodeIs, graphOf};
 
-mod bytes;
+pub mod bytes;
 pub mod checks;
 pub mod record;
 pub mod view;

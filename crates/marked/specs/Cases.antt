@@ -14,20 +14,25 @@ use Rattle.symbols.specs.declared.BVOperator.the-variants.{Mul, Divu, Remu, Equ
 use Rattle.reach.specs.Table.{tableSays}
 use Rattle.rules.specs.One.{one}
 use Rattle.values.specs.Answers.{Answer, answered, refused, inverseAnswer, consistentAnswer}
+use Rattle.search.specs.Machine.{Values, End, solved, spent, Out}
+use Rattle.solve.specs.Solve as solve
+use Rattle.marked.specs.Example.{exampleFile, sevenZeros, lent}
 
 -- what may be asked, with s, t and the words: reachability; an inverse or a consistent value, from the front of the words; whether the
--- inverse is chosen at a quotient
+-- inverse is chosen at a quotient; the whole search over the example's file and words, with a budget
 pub data Question : Type 0 where
   reaches : BVOperator → OperandSide → Value → Value → Question
   inverse : BVOperator → OperandSide → Value → Value → Words → Question
   consistent : BVOperator → OperandSide → Value → Words → Question
   chooses : ℕ → Question
+  searches : ℕ → Question
 
--- yes or no; a value with the number of its words; anything else
+-- yes or no; a value with the number of its words; a result; anything else
 pub data Reply : Type 0 where
   yes : Reply
   no : Reply
   gives : Value → Place → Reply
+  ends : Out → Reply
   other : Reply
 
 abbrev pub said : Bool → Reply
@@ -42,10 +47,19 @@ abbrev pub tossed : Toss → Reply
 tossed (toss.Fell b s) = said b
 tossed toss.Dry = other
 
+abbrev pub result : solve.Result → Reply
+result (solve.ended o) = ends o
+result (solve.refused k l vs) = other
+
+-- how it ended, rounds, lost, steps, words, values
+abbrev pub out : End → ℕ → ℕ → ℕ → ℕ → Values → Out
+out e rounds lost steps words vs = record { end = e; rounds = rounds; lost = lost; steps = steps; words = words; vals = vs }
+
 unfoldable pub ask : Question → Reply
 ask (reaches o d s t) = said (tableSays o d s t)
 ask (inverse o d s t ws) = valued (inverseAnswer one o d s t ws 0)
 ask (consistent o d t ws) = valued (consistentAnswer one o d t ws 0)
+ask (searches budget) = result (solve.answer one exampleFile sevenZeros budget lent)
 ask (chooses quotient) = tossed (choosingAt (quotient * 2048 ∷ []) 0)
 
 -- a row of the table: the case's number, what is asked, what is replied
@@ -97,4 +111,8 @@ table =
     -- "(13) inverse chosen at quotient 8106479329266892, not at ..893."
     ∷ row 13 (chooses 8106479329266892) yes
     ∷ row 13 (chooses 8106479329266893) no
+    -- "(14) the graph above": "solved rounds=1 lost=0 steps=2 words=7", "x0 40 7", at the program's budget
+    ∷ row 14 (searches 100000) (ends (out solved 1 0 2 7 (7 ∷ 3 ∷ 10 ∷ 10 ∷ 1 ∷ [])))
+    -- "Budget 1 in the library: Spent, 0 rounds, 1 step, 5 words, values 0 3 3 10 0."
+    ∷ row 14 (searches 1) (ends (out spent 0 0 1 5 (0 ∷ 3 ∷ 3 ∷ 10 ∷ 0 ∷ [])))
     ∷ []

@@ -1,0 +1,15 @@
+-- `assign::value_at` meets its contract. Assumes nothing.
+use borrow.Author.Needs.{needs}
+use Rattle.assign.proofs.Passes.{read-past}
+use Rattle.assign.proofs.value_at.Statement.{statement}
+use Rattle.assign.proofs.value_at.Tie as tie
+
+pub value-at-spec : {M : Type 1} → statement M
+value-at-spec =
+    tie.close
+    (tie.spec
+    (λ c. search needs)
+    (λ c. search needs)
+    (λ c. search needs)
+    (λ c. search needs)
+    (λ c. search (read-past, needs)))

@@ -1,0 +1,13 @@
+pub mod Runs
+pub mod Turns
+pub mod Ends
+pub mod Counts
+pub mod Bounds
+pub mod Unique
+pub mod Hits
+pub mod Rounds
+pub mod Results
+pub mod Longer
+pub mod Toy
+pub mod ToyLaws
+pub mod Witness

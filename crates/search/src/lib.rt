@@ -1,0 +1,1 @@
+// No code: the search as a machine over any step (specs/), and what its results mean (proofs/).

@@ -1,0 +1,177 @@
+-- The search as the code meets it: one law for each `return` and each turn of the loop. Assumes nothing.
+use mathlib.Core.Path.{_≡_, refl, sym, ap, _∙_}
+use Prim.Native.Nat.{ℕ, _+_, _-_, _≤_, _<_}
+use mathlib.Core.List.{[]}
+use native.Mathlib.Omega.{arith}
+use lib.ListN.{length, getD, set}
+use borrow.Author.Tests.{eq-eqb, ne-eqb}
+use Rattle.bitvec.specs.declared.BitVector.{BitVector}
+use Rattle.words.specs.Words.{Words}
+use Rattle.words.specs.declared.WordSource.{WordSource}
+use Rattle.symbols.specs.Graph as graph
+use Rattle.symbols.specs.Graph.{Graph}
+use Rattle.symbols.specs.declared.SymbolId.{SymbolId}
+use Rattle.symbols.specs.declared.BVOperator.{BVOperator}
+use Rattle.formula.specs.File.{File}
+use Rattle.formula.specs.Graph.{graphOf, nodeIs}
+use Rattle.formula.specs.declared.Formula.{Formula}
+use Rattle.formula.specs.declared.Node.{Node}
+use Rattle.formula.specs.declared.Node.the-variants as node
+use Rattle.search.specs.Machine.{Values, Play, St, solved, spent, Out, Next, done, on, ends, dries, fresh, round, missed, Landing, stores, loses, walks, landing, landingAt, reached, moved, stepped, turnOf, runFrom, begin, fromRoot, searchOf}
+use Rattle.rules.specs.Rules.{Rules}
+use Rattle.assign.specs.Settle.{settle}
+use Rattle.monster.specs.declared.Walk.{Walk}
+use Rattle.monster.specs.declared.Choice.{Choice}
+use Rattle.monster.specs.declared.Move.{Move}
+use Rattle.monster.specs.declared.Move.the-variants as move
+use Rattle.monster.specs.Step.{stepFrom, hereOf, playOf, stepOf}
+use Rattle.turns.specs.declared.State.{State}
+use Rattle.turns.specs.declared.Outcome.{Outcome}
+use Rattle.turns.specs.declared.Turn.{Turn}
+use Rattle.turns.specs.declared.Turn.the-variants as turn
+use Rattle.turns.specs.Turn.{stOf, outOf, nextOf}
+use Rattle.turns.proofs.Machine.{After, turn-after, run-spent, run-done, run-on}
+
+-- a new round, or the end
+module _ (root : ℕ) (s : State) (vs : Values) (v : ℕ) (hv : v ≡ getD vs root 0) where
+  pub round-solved : v ≡ 1 → done (ends solved (stOf s vs)) ≡ round root (stOf s vs)
+  unfolding round
+  round-solved e = rw (eq-eqb (getD vs root 0) 1 (sym hv ∙ e))
+
+  pub round-again : (v ≡ 1 → ⊥) → on (fresh root (stOf s vs)) ≡ round root (stOf s vs)
+  unfolding round
+  round-again e = rw (ne-eqb (getD vs root 0) 1 (λ z. e (hv ∙ z)))
+
+-- where a walk lands
+module _ (ρ : Rules) (f : File) (m : Formula) (s : State) (vs : Values) (q : Node) (hq : nodeIs q ≡ graphOf f m .node (s .walk .node .0)) where
+  abbrev still : Play
+  still = playOf ρ (graphOf f m) []
+
+  abbrev Reached : Next → Type 0
+  Reached x = x ≡ reached still (landingAt (graphOf f m) (stOf s vs)) (stOf s vs)
+
+  lands : (z : Node) → q ≡ z → (x : Next) → x ≡ reached still (landing (nodeIs z)) (stOf s vs) → Reached x
+  lands z e x h = h ∙ ap (λ (n : graph.Node). reached still (landing n) (stOf s vs)) (ap nodeIs (sym e) ∙ hq)
+
+  pub land-constant : (v : BitVector) (x : Next) → q ≡ node.Constant v → x ≡ round (m .root .0) (missed (stOf s vs)) → Reached x
+  unfolding reached graphOf
+  land-constant v x e h = lands (node.Constant v) e x h
+
+  pub land-input : (l : ℕ) (us : Values) (x : Next) → q ≡ node.Input l → us ≡ settle (graphOf f m) (set vs (s .walk .node .0) (s .walk .target .0))
+      → x ≡ round (m .root .0) record { node = s .walk .node .0; target = s .walk .target .0; place = s .walk .source .at; rounds = s .rounds + 1; lost = s .lost; steps = s .steps; vals = us }
+      → Reached x
+  unfolding reached graphOf
+  land-input l us x e hu h =
+      lands (node.Input l) e x
+      (h
+      ∙ ap
+      (λ (ws : Values). round (m .root .0) record { node = s .walk .node .0; target = s .walk .target .0; place = s .walk .source .at; rounds = s .rounds + 1; lost = s .lost; steps = s .steps; vals = ws })
+      hu)
+
+  pub land-unary : (a : SymbolId) → q ≡ node.Unary a → Reached (on (stOf s vs))
+  unfolding reached
+  land-unary a e = lands (node.Unary a) e _ refl
+
+  pub land-binary : (o : BVOperator) (a b : SymbolId) → q ≡ node.Binary o a b → Reached (on (stOf s vs))
+  unfolding reached
+  land-binary o a b e = lands (node.Binary o a b) e _ refl
+
+-- where a walk lands the words do not matter
+wordless : (ρ : Rules) (g : Graph) (ws : Words) (l : Landing) (s : St) → reached (playOf ρ g []) l s ≡ reached (playOf ρ g ws) l s
+unfolding reached
+wordless ρ g ws stores s = refl
+wordless ρ g ws loses s = refl
+wordless ρ g ws walks s = refl
+
+-- a turn: p is the move that the step answered
+module _ (ρ : Rules) (g : Graph) (ws : Words) (s : State) (vs : Values) (p : Move)
+    (hp : stepOf p ≡ stepFrom (hereOf ρ g vs) ws (s .walk .node .0) (s .walk .target .0) (s .walk .source .at)) where
+  took : (z : Move) → p ≡ z → stepped (playOf ρ g ws) (stOf s vs) (stepOf z) ≡ turnOf (playOf ρ g ws) (stOf s vs)
+  unfolding turnOf
+  took z e = ap (stepped (playOf ρ g ws) (stOf s vs)) (ap stepOf (sym e) ∙ hp)
+
+  pub turn-dry : (a : WordSource) → p ≡ move.Dry a → done (dries (stOf s vs) (a .at)) ≡ turnOf (playOf ρ g ws) (stOf s vs)
+  unfolding stepped
+  turn-dry a e = took (move.Dry a) e
+
+  module _ (w : Walk) (c : Choice) (e : p ≡ move.To w c) where
+    abbrev there : St
+    there = moved (stOf s vs) (w .node .0) (w .target .0) (w .source .at)
+
+    pub turn-to : (x : Next) → x ≡ reached (playOf ρ g []) (landingAt g there) there → x ≡ turnOf (playOf ρ g ws) (stOf s vs)
+    unfolding stepped
+    turn-to x h = h ∙ wordless ρ g ws (landingAt g there) there ∙ took (move.To w c) e
+
+-- the loop: e is the result of the whole
+pub turns-begin : (P : Play) (budget : ℕ) (s : St) → runFrom P (budget - 0) s ≡ runFrom P budget s
+turns-begin P budget s = let z : budget - 0 ≡ budget = omega arith in ap (λ (x : ℕ). runFrom P x s) z
+
+pub turns-long : (vs us : Values) (n : ℕ) → length vs ≡ n → length us ≡ length vs → length us ≡ n
+turns-long vs us n h k = k ∙ h
+
+module _ (P : Play) (budget : ℕ) (s : State) (vs : Values) (e : Out) (inv : runFrom P (budget - s .steps) (stOf s vs) ≡ e) where
+  pub turns-return : (t : Turn) (us : Values) (o : Outcome) → s .steps < budget → nextOf t us ≡ turnOf P (stOf s vs) → t ≡ turn.Done o → outOf o us ≡ e
+  turns-return t us o h p q = sym (run-done P budget (stOf s vs) (outOf o us) h (ap (λ (x : Turn). nextOf x us) (sym q) ∙ p)) ∙ inv
+
+  module _ (t : Turn) (us : Values) (u : State) (h : s .steps < budget) (p : nextOf t us ≡ turnOf P (stOf s vs)) (q : t ≡ turn.On u)
+      (few : s .rounds ≤ s .steps) (fewer : s .lost ≤ s .rounds) where
+    went : on (stOf u us) ≡ turnOf P (stOf s vs)
+    went = ap (λ (x : Turn). nextOf x us) (sym q) ∙ p
+
+    after : After (s .steps + 1) (stOf u us)
+    after = turn-after P (stOf s vs) (stOf u us) few fewer (sym went)
+
+    pub turns-rounds : u .rounds ≤ u .steps
+    turns-rounds = after .rounds
+
+    pub turns-lost : u .lost ≤ u .rounds
+    turns-lost = after .lost
+
+    pub turns-within : u .steps ≤ budget
+    turns-within = omega (arith, after .steps)
+
+    pub turns-less : budget - u .steps < budget - s .steps
+    turns-less = omega (arith, after .steps)
+
+    pub turns-again : runFrom P (budget - u .steps) (stOf u us) ≡ e
+    turns-again = sym (run-on P budget (stOf s vs) (stOf u us) h went (after .steps)) ∙ inv
+
+  pub turns-spent : budget ≤ s .steps → ends spent (stOf s vs) ≡ e
+  turns-spent h = sym (run-spent P budget (stOf s vs) h) ∙ inv
+
+-- the search, by what the root is
+module _ (ρ : Rules) (f : File) (m : Formula) (ws : Words) (budget : ℕ) (vs : Values) (n : ℕ) (v : ℕ) (hv : v ≡ getD vs (m .root .0) 0) where
+  abbrev P : Play
+  P = playOf ρ (graphOf f m) ws
+
+  abbrev here : St
+  here = begin (m .root .0) vs n
+
+  pub search-now : v ≡ 1 → ends solved here ≡ searchOf P budget vs n
+  unfolding searchOf graphOf
+  search-now e = rw (eq-eqb (getD vs (m .root .0) 0) 1 (sym hv ∙ e))
+
+  module _ (ne : v ≡ 1 → ⊥) (q : Node) (hq : nodeIs q ≡ graphOf f m .node (m .root .0)) where
+    rooted : (z : Node) → q ≡ z → (x : Out) → x ≡ fromRoot P (landing (nodeIs z)) budget here → x ≡ searchOf P budget vs n
+    unfolding searchOf graphOf
+    rooted z e x h =
+        rw (ne-eqb (getD vs (m .root .0) 0) 1 (λ y. ne (hv ∙ y)))
+        (h ∙ ap (λ (a : graph.Node). fromRoot P (landing a) budget here) (ap nodeIs (sym e) ∙ hq))
+
+    pub search-constant : (c : BitVector) → q ≡ node.Constant c → ends spent here ≡ searchOf P budget vs n
+    unfolding fromRoot
+    search-constant c e = rooted (node.Constant c) e _ refl
+
+    pub search-input : (l : ℕ) (us : Values) → q ≡ node.Input l → us ≡ settle (graphOf f m) (set vs (m .root .0) 1)
+        → record { end = solved; rounds = 1; lost = 0; steps = 0; words = n; vals = us } ≡ searchOf P budget vs n
+    unfolding fromRoot
+    search-input l us e h =
+        rooted (node.Input l) e _ (ap (λ (y : Values). record { end = solved; rounds = 1; lost = 0; steps = 0; words = n; vals = y }) h)
+
+    pub search-unary : (a : SymbolId) (x : Out) → q ≡ node.Unary a → x ≡ runFrom P budget here → x ≡ searchOf P budget vs n
+    unfolding fromRoot
+    search-unary a x e h = rooted (node.Unary a) e x h
+
+    pub search-binary : (o : BVOperator) (a b : SymbolId) (x : Out) → q ≡ node.Binary o a b → x ≡ runFrom P budget here → x ≡ searchOf P budget vs n
+    unfolding fromRoot
+    search-binary o a b x e h = rooted (node.Binary o a b) e x h
