@@ -3,3 +3,4 @@ pub mod Writing
 pub mod Texts
 pub mod Filing
 pub mod Asking
+pub mod Results

@@ -7,6 +7,7 @@ ghost use Rattle.ffi.specs.Out.{written};
 pub mod bits;
 pub mod files;
 pub mod out;
+pub mod searching;
 pub mod single;
 
 use bits::Found;
