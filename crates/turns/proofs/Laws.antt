@@ -4,7 +4,6 @@ use Prim.Native.Nat.{ℕ, _+_, _-_, _≤_, _<_}
 use mathlib.Core.List.{[]}
 use native.Mathlib.Omega.{arith}
 use lib.ListN.{length, getD, set}
-use borrow.Author.Tests.{eq-eqb, ne-eqb}
 use Rattle.bitvec.specs.declared.BitVector.{BitVector}
 use Rattle.words.specs.Words.{Words}
 use Rattle.words.specs.declared.WordSource.{WordSource}
@@ -18,6 +17,8 @@ use Rattle.formula.specs.declared.Formula.{Formula}
 use Rattle.formula.specs.declared.Node.{Node}
 use Rattle.formula.specs.declared.Node.the-variants as node
 use Rattle.search.specs.Machine.{Values, Play, St, solved, spent, Out, Next, done, on, ends, dries, fresh, round, missed, Landing, stores, loses, walks, landing, landingAt, reached, moved, stepped, turnOf, runFrom, begin, fromRoot, searchOf}
+use Rattle.search.proofs.Turns as turns
+use Rattle.search.proofs.Turns.{Few, turn-few, run-used, run-done, run-on, search-from}
 use Rattle.rules.specs.Rules.{Rules}
 use Rattle.assign.specs.Settle.{settle}
 use Rattle.monster.specs.declared.Walk.{Walk}
@@ -30,17 +31,14 @@ use Rattle.turns.specs.declared.Outcome.{Outcome}
 use Rattle.turns.specs.declared.Turn.{Turn}
 use Rattle.turns.specs.declared.Turn.the-variants as turn
 use Rattle.turns.specs.Turn.{stOf, outOf, nextOf}
-use Rattle.turns.proofs.Machine.{After, turn-after, run-spent, run-done, run-on}
 
 -- a new round, or the end
 module _ (root : ℕ) (s : State) (vs : Values) (v : ℕ) (hv : v ≡ getD vs root 0) where
   pub round-solved : v ≡ 1 → done (ends solved (stOf s vs)) ≡ round root (stOf s vs)
-  unfolding round
-  round-solved e = rw (eq-eqb (getD vs root 0) 1 (sym hv ∙ e))
+  round-solved e = turns.round-solved root (stOf s vs) (sym hv ∙ e)
 
   pub round-again : (v ≡ 1 → ⊥) → on (fresh root (stOf s vs)) ≡ round root (stOf s vs)
-  unfolding round
-  round-again e = rw (ne-eqb (getD vs root 0) 1 (λ z. e (hv ∙ z)))
+  round-again e = turns.round-starts root (stOf s vs) (λ z. e (hv ∙ z))
 
 -- where a walk lands
 module _ (ρ : Rules) (f : File) (m : Formula) (s : State) (vs : Values) (q : Node) (hq : nodeIs q ≡ graphOf f m .node (s .walk .node .0)) where
@@ -118,26 +116,26 @@ module _ (P : Play) (budget : ℕ) (s : State) (vs : Values) (e : Out) (inv : ru
     went : on (stOf u us) ≡ turnOf P (stOf s vs)
     went = ap (λ (x : Turn). nextOf x us) (sym q) ∙ p
 
-    after : After (s .steps + 1) (stOf u us)
-    after = turn-after P (stOf s vs) (stOf u us) few fewer (sym went)
+    after : Few (stOf u us) × (u .steps ≡ s .steps + 1)
+    after = turn-few P (stOf s vs) (stOf u us) (sym went) record { rounds = few; lost = fewer }
 
     pub turns-rounds : u .rounds ≤ u .steps
-    turns-rounds = after .rounds
+    turns-rounds = after .0 .rounds
 
     pub turns-lost : u .lost ≤ u .rounds
-    turns-lost = after .lost
+    turns-lost = after .0 .lost
 
     pub turns-within : u .steps ≤ budget
-    turns-within = omega (arith, after .steps)
+    turns-within = omega (arith, after .1)
 
     pub turns-less : budget - u .steps < budget - s .steps
-    turns-less = omega (arith, after .steps)
+    turns-less = omega (arith, after .1)
 
     pub turns-again : runFrom P (budget - u .steps) (stOf u us) ≡ e
-    turns-again = sym (run-on P budget (stOf s vs) (stOf u us) h went (after .steps)) ∙ inv
+    turns-again = sym (run-on P budget (stOf s vs) (stOf u us) h went (after .1)) ∙ inv
 
   pub turns-spent : budget ≤ s .steps → ends spent (stOf s vs) ≡ e
-  turns-spent h = sym (run-spent P budget (stOf s vs) h) ∙ inv
+  turns-spent h = sym (run-used P budget (stOf s vs) h) ∙ inv
 
 -- the search, by what the root is
 module _ (ρ : Rules) (f : File) (m : Formula) (ws : Words) (budget : ℕ) (vs : Values) (n : ℕ) (v : ℕ) (hv : v ≡ getD vs (m .root .0) 0) where
@@ -148,15 +146,14 @@ module _ (ρ : Rules) (f : File) (m : Formula) (ws : Words) (budget : ℕ) (vs :
   here = begin (m .root .0) vs n
 
   pub search-now : v ≡ 1 → ends solved here ≡ searchOf P budget vs n
-  unfolding searchOf graphOf
-  search-now e = rw (eq-eqb (getD vs (m .root .0) 0) 1 (sym hv ∙ e))
+  unfolding graphOf
+  search-now e = turns.search-now P budget vs n (sym hv ∙ e)
 
   module _ (ne : v ≡ 1 → ⊥) (q : Node) (hq : nodeIs q ≡ graphOf f m .node (m .root .0)) where
     rooted : (z : Node) → q ≡ z → (x : Out) → x ≡ fromRoot P (landing (nodeIs z)) budget here → x ≡ searchOf P budget vs n
-    unfolding searchOf graphOf
+    unfolding graphOf
     rooted z e x h =
-        rw (ne-eqb (getD vs (m .root .0) 0) 1 (λ y. ne (hv ∙ y)))
-        (h ∙ ap (λ (a : graph.Node). fromRoot P (landing a) budget here) (ap nodeIs (sym e) ∙ hq))
+        h ∙ ap (λ (a : graph.Node). fromRoot P (landing a) budget here) (ap nodeIs (sym e) ∙ hq) ∙ search-from P budget vs n (λ y. ne (hv ∙ y))
 
     pub search-constant : (c : BitVector) → q ≡ node.Constant c → ends spent here ≡ searchOf P budget vs n
     unfolding fromRoot

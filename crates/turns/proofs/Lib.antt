@@ -1,3 +1,2 @@
-pub mod Machine
 pub mod Laws
 pub mod OneOutcome
