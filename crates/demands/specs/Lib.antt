@@ -1,0 +1,5 @@
+pub mod Call
+pub mod Result
+pub mod Trace
+pub mod Cases
+pub mod Programs

@@ -1,0 +1,1 @@
+// No code: the three demands as theorems about `solve` (specs/ and proofs/).

@@ -1,0 +1,3 @@
+pub mod Steady
+pub mod Steps
+pub mod Plays
