@@ -1,27 +1,21 @@
 -- Laws of `settle` and of the start: all that the crates above use of them. Assumes nothing.
-use Prim.Native.Nat.{ℕ, zero, suc, _+_, _-_, _*_, _/_, _%_, _≤_, _<_, _^_}
+use Prim.Native.Nat.{ℕ, zero, suc, _+_, _≤_, _<_, _^_}
 use mathlib.Core.Path.{_≡_, refl, sym, ap, subst, _∙_}
 use mathlib.Core.Logic.{inl, inr}
-use mathlib.Core.Bool.{Bool, true, false}
 use native.Mathlib.Omega.{arith}
 use native.Mathlib.Decide.{ℕ-discrete, decLe}
-use native.Mathlib.Nat.{mod-lt, div-le-self, mod-le}
-use lib.Bits.{and-lt}
-use lib.Dec.{ltb, eqb}
-use mir.Val.{boolByte}
+use lib.Dec.{eqb}
 use lib.ListN.{length, set, replicate, length-set, length-replicate, List·getD-eq-default}
 use lib.Seq.{getD-set-same, getD-set-other, set-getD, set-out, ext-getD}
-use Rattle.laws.specs.Pick.{pick}
 use Rattle.bitvec.specs.Word.{isZero}
 use Rattle.words.specs.Words.{Words}
 use Rattle.words.proofs.Draws.{Small}
 use Rattle.symbols.specs.Graph.{Id, Value, Node, constant, input, unary, binary, Graph, Operand}
 use Rattle.symbols.specs.Operators.{apply}
-use Rattle.symbols.specs.declared.BVOperator.{BVOperator}
-use Rattle.symbols.specs.declared.BVOperator.the-variants.{Add, Sub, Mul, Divu, Sltu, Remu, Not, Equals, BitwiseAnd}
 use Rattle.search.specs.Machine.{Values, valueOf}
 use Rattle.search.specs.Lawful.{Redone}
 use Rattle.search.specs.Solution as solution
+use Rattle.search.proofs.Bounds.{bit-below, apply-below}
 use Rattle.search.specs.Solution.{Sane}
 use Rattle.assign.specs.Settle.{worked, settleOne, settleUpTo, settle}
 use Rattle.assign.specs.Start.{wantedUpTo, firstBy, firstOf, givenUpTo, startFrom, startOf}
@@ -153,25 +147,6 @@ module _ (g : Graph) where
     settle-redone vs l i p = redone-by (g .node i) i vs (settle g vs) (settle-leaf vs i) (settle-right vs l i p)
 
 -- "values are 0..M": every operator keeps within
-pick-below : (b : Bool) (x y : ℕ) → x < 2 ^ 64 → y < 2 ^ 64 → pick b x y < 2 ^ 64
-pick-below true x y h k = h
-pick-below false x y h k = k
-
-bool-below : (b : Bool) → boolByte b < 2 ^ 64
-bool-below true = omega arith
-bool-below false = omega arith
-
-pub apply-below : (o : BVOperator) (x y : Value) → x < 2 ^ 64 → y < 2 ^ 64 → apply o x y < 2 ^ 64
-apply-below Add x y h k = mod-lt (x + y) {m = 2 ^ 64} (omega arith)
-apply-below Sub x y h k = mod-lt (x + (2 ^ 64 - y)) {m = 2 ^ 64} (omega arith)
-apply-below Mul x y h k = mod-lt (x * y) {m = 2 ^ 64} (omega arith)
-apply-below Divu x y h k = pick-below (eqb y 0) _ (x / y) (omega arith) (omega (arith, div-le-self x y))
-apply-below Sltu x y h k = bool-below (ltb x y)
-apply-below Remu x y h k = pick-below (eqb y 0) x (x % y) h (omega (arith, mod-le x y))
-apply-below Not x y h k = bool-below (eqb x 0)
-apply-below Equals x y h k = bool-below (eqb x y)
-apply-below BitwiseAnd x y h k = and-lt 64 x y h k
-
 module _ (g : Graph) where
   abbrev pub Below : Values → Type 0
   Below vs = (j : Id) → valueOf vs j < 2 ^ 64
@@ -190,7 +165,7 @@ module _ (g : Graph) where
   worked-below : (n : Node) (i : Id) (vs : Values) → Below vs → worked n i vs < 2 ^ 64
   worked-below (constant c) i vs b = b i
   worked-below (input l) i vs b = b i
-  worked-below (unary a) i vs b = bool-below (eqb (valueOf vs a) 0)
+  worked-below (unary a) i vs b = bit-below (eqb (valueOf vs a) 0)
   worked-below (binary o x y) i vs b = apply-below o _ _ (b x) (b y)
 
   up-below : (k : ℕ) (vs : Values) → Below vs → Below (settleUpTo g k vs)

@@ -1,11 +1,9 @@
 -- The start and the pass as the code meets them: one law for each `return` and each turn of a loop. Assumes nothing.
 use Prim.Native.Nat.{ℕ, _+_, _≤_}
 use mathlib.Core.Path.{_≡_, refl, sym, ap, _∙_}
-use mathlib.Core.List.{List}
 use native.Mathlib.Omega.{arith}
 use native.Mathlib.Numerals.{add-one}
-use lib.ListN.{length, getD, set, List·getD-eq-default}
-use lib.Seq.{set-out}
+use lib.ListN.{length, getD, set}
 use Rattle.bitvec.specs.Word.{isZero}
 use Rattle.bitvec.specs.declared.BitVector.{BitVector}
 use Rattle.words.specs.Words.{Words}
@@ -22,13 +20,6 @@ use Rattle.search.specs.Machine.{Values}
 use Rattle.assign.specs.Settle.{worked, settleOne, settleUpTo, settle}
 use Rattle.assign.specs.Start.{takes, wantedUpTo, wanted, firstBy, firstOf, givenUpTo, startFrom}
 use Rattle.assign.proofs.Laws.{up-length, given-length}
-
--- past the end nothing is stored, and what is read is 0
-pub set-past : (l : List ℕ) (i a : ℕ) → length l ≤ i → l ≡ set l i a
-set-past l i a h = sym (set-out l i a h)
-
-pub read-past : (l : List ℕ) (i : ℕ) → length l ≤ i → 0 ≡ getD l i 0
-read-past l i h = sym (List·getD-eq-default l 0 h)
 
 -- what is made of a node, by its case
 made : {X : Type 0} (f : Node → X) (n m : Node) (r : X) → n ≡ m → r ≡ f m → r ≡ f n

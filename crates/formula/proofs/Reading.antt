@@ -18,9 +18,6 @@ use Rattle.formula.specs.declared.Node.{Node}
 use Rattle.formula.specs.declared.Kind.{Kind}
 use Rattle.formula.specs.declared.Kind.the-variants.{Unknown}
 
-pub byte-past : (s : List ℕ) (a : ℕ) → length s ≤ a → 0 ≡ getD s a 0
-byte-past s a h = sym (List·getD-eq-default s 0 h)
-
 pub zeros-none : (s : List ℕ) (a : ℕ) → true ≡ zeros s a 0
 unfolding zeros
 zeros-none s a = refl

@@ -1,5 +1,5 @@
 -- Document 01, "The program": "little-endian words of 8 bytes from standard input (a rest under 8 is ignored)". Assumes nothing.
-use Prim.Native.Nat.{ℕ, zero, suc, _+_, _-_, _*_, _/_}
+use Prim.Native.Nat.{ℕ, zero, suc, _-_, _*_, _/_}
 use mathlib.Core.List.{List, [], _∷_, _++_}
 use lib.ListN.{length}
 use Rattle.formula.specs.File.{le64}

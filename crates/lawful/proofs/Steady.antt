@@ -8,7 +8,7 @@ use Rattle.laws.specs.Pick.{pick}
 use Rattle.bitvec.specs.Word.{M, bvadd, bvsub, bvmul, bvudiv, bvand, bvor, bvnot}
 use Rattle.words.specs.Words.{drawAt, rangeAt, notAt, twoAt, mapDraw}
 use Rattle.words.specs.declared.Draw.the-variants.{Word, Dry}
-use Rattle.words.proofs.Draws.{draw-forward, draw-longer, range-forward, range-longer, not-forward, not-longer, two-forward, two-longer}
+use Rattle.words.proofs.Draws.{draw-forward, draw-longer, range-forward, range-longer, not-forward, not-longer, two-forward, two-longer, made}
 use Rattle.symbols.specs.Graph.{Value}
 use Rattle.symbols.specs.declared.OperandSide.{OperandSide}
 use Rattle.symbols.specs.declared.OperandSide.the-variants.{Lhs, Rhs}
@@ -16,7 +16,7 @@ use Rattle.symbols.specs.declared.BVOperator.{BVOperator}
 use Rattle.symbols.specs.declared.BVOperator.the-variants.{Add, Sub, Mul, Divu, Sltu, Remu, Not, Equals, BitwiseAnd}
 use Rattle.rules.specs.One.{noWord, mulValue, divisorOf, inverseAt, mapPair, mulConsistent, consistentAt, one}
 use Rattle.promises.specs.Keeps.{Rule}
-use Rattle.promises.proofs.Splits.{never, is-place, made, made-two}
+use Rattle.promises.proofs.Splits.{never, is-place, made-two}
 use Rattle.lawful.specs.Owed.{Steady, SteadyRules}
 
 none-steady : (x : Value) → Steady (λ ws n. noWord x n)

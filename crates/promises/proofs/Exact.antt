@@ -38,7 +38,7 @@ module _ (ws : Words) (n a b v : ℕ) (q : WordSource) (e : rangeAt ws n a b ≡
   unfolding rangeAt
   range-enough l =
       let h = range-is ws n a b v q e in
-      rw (le-ltb b a (h .0), draw-enough ws n (h .1 .0) q (h .1 .1) m l) (ap (λ (x : ℕ). Word x q) (h .1 .2))
+      rw (le-ltb b a (h .0), draw-enough ws n (h .1 .0) q (h .1 .1) m l) (ap (λ (x : ℕ). Word x q) (sym (h .1 .2)))
 
   pub range-fewer : m < q .at → rangeAt (take m ws) n a b ≡ Dry
   unfolding rangeAt

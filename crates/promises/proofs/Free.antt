@@ -9,7 +9,7 @@ use Rattle.laws.specs.Pick.{pick}
 use Rattle.bitvec.specs.Word.{M, bvadd, bvsub, bvmul, bvudiv, bvand, bvor, bvnot}
 use Rattle.words.specs.Words.{drawAt, rangeAt, notAt, twoAt, mapDraw}
 use Rattle.words.specs.declared.Draw.the-variants.{Dry}
-use Rattle.words.proofs.Draws.{draw-forward, range-forward, not-forward, two-forward}
+use Rattle.words.proofs.Draws.{draw-forward, range-forward, not-forward, two-forward, made}
 use Rattle.symbols.specs.Graph.{Value}
 use Rattle.symbols.specs.declared.OperandSide.{OperandSide}
 use Rattle.symbols.specs.declared.OperandSide.the-variants.{Lhs, Rhs}
@@ -17,7 +17,7 @@ use Rattle.symbols.specs.declared.BVOperator.{BVOperator}
 use Rattle.symbols.specs.declared.BVOperator.the-variants.{Add, Sub, Mul, Divu, Sltu, Remu, Not, Equals, BitwiseAnd}
 use Rattle.rules.specs.One.{noWord, mulValue, divisorOf, inverseAt, mapPair, mulConsistent, consistentAt}
 use Rattle.promises.specs.Keeps.{Rule, Takes, Told, inverseFree, consistentFree}
-use Rattle.promises.proofs.Splits.{never, made, made-two}
+use Rattle.promises.proofs.Splits.{never, made-two}
 
 told-free : (x : Value) → Told true (λ ws n. noWord x n)
 told-free x = record { none = λ e. (x, λ ws n. refl); some = λ e. absurd (true≢false e) }

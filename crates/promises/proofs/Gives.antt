@@ -18,7 +18,7 @@ use Rattle.bitvec.proofs.Laws.{odd-part, inverse-is, mulInverse, mul-inverse, m
 use Rattle.words.specs.Words.{Words, Place, drawAt, rangeAt}
 use Rattle.words.specs.declared.WordSource.{WordSource}
 use Rattle.words.specs.declared.Draw.the-variants.{Word}
-use Rattle.words.proofs.Draws.{Small, draw-small, range-within, not-is}
+use Rattle.words.proofs.Draws.{Small, draw-small, range-within, not-is, made}
 use Rattle.symbols.specs.Graph.{Value}
 use Rattle.symbols.specs.Operators.{applyAt}
 use Rattle.symbols.specs.declared.OperandSide.{OperandSide}
@@ -28,7 +28,7 @@ use Rattle.symbols.specs.declared.BVOperator.the-variants.{Add, Sub, Mul, Divu,
 use Rattle.reach.specs.Table.{tableSays}
 use Rattle.existence.specs.Kinds.{FalseYes, at-divu, at-sltu, at-equals}
 use Rattle.rules.specs.One.{mulValue, divisorOf, inverseAt}
-use Rattle.promises.proofs.Splits.{split, never, is-value, made}
+use Rattle.promises.proofs.Splits.{split, never, is-value}
 
 sltu-one : (a b : ℕ) → a < b → sltu a b ≡ 1
 sltu-one a b h = rw (lt-ltb a b h)

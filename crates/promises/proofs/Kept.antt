@@ -12,7 +12,7 @@ use Rattle.bitvec.specs.Word.{M, bvadd, bvsub, bvmul, bvudiv, bvand, bvor, bvno
 use Rattle.bitvec.specs.Inverse.{inverseOf}
 use Rattle.words.specs.Words.{drawAt, rangeAt, notAt, twoAt, mapDraw}
 use Rattle.words.specs.declared.Draw.the-variants.{Word, Dry}
-use Rattle.words.proofs.Draws.{draw-forward, draw-small, draw-longer, range-forward, range-within, range-longer, not-forward, not-small, not-longer, two-forward, two-small, two-longer}
+use Rattle.words.proofs.Draws.{draw-forward, draw-small, draw-longer, range-forward, range-within, range-longer, not-forward, not-small, not-longer, two-forward, two-small, two-longer, made}
 use Rattle.symbols.specs.Graph.{Value}
 use Rattle.symbols.specs.declared.OperandSide.{OperandSide}
 use Rattle.symbols.specs.declared.OperandSide.the-variants.{Lhs, Rhs}
@@ -20,7 +20,7 @@ use Rattle.symbols.specs.declared.BVOperator.{BVOperator}
 use Rattle.symbols.specs.declared.BVOperator.the-variants.{Add, Sub, Mul, Divu, Sltu, Remu, Not, Equals, BitwiseAnd}
 use Rattle.rules.specs.One.{noWord, mulValue, divisorOf, inverseAt, mapPair, mulConsistent, consistentAt}
 use Rattle.promises.specs.Keeps.{Rule, Keeps}
-use Rattle.promises.proofs.Splits.{never, is-value, is-place, made, made-two}
+use Rattle.promises.proofs.Splits.{never, is-value, is-place, made-two}
 use Rattle.promises.proofs.Exact.{draw-enough, draw-fewer, range-enough, range-fewer, not-enough, not-fewer, two-enough, two-fewer}
 
 -- a value that needs no word, and none

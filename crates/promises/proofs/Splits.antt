@@ -4,7 +4,7 @@ use mathlib.Core.Bool.{Bool, true, false}
 use Prim.Native.Nat.{ℕ}
 use native.Mathlib.Omega.{arith}
 use Rattle.laws.specs.Pick.{pick}
-use Rattle.words.specs.Words.{Place, mapDraw}
+use Rattle.words.specs.Words.{Place}
 use Rattle.words.specs.declared.WordSource.{WordSource}
 use Rattle.words.specs.declared.Draw.{Draw}
 use Rattle.words.specs.declared.Draw.the-variants.{Word, Dry}
@@ -24,10 +24,6 @@ is-value x n v q e = cc
 
 pub is-place : (x : ℕ) (n : Place) (v : ℕ) (q : WordSource) → noWord x n ≡ Word v q → q .at ≡ n
 is-place x n v q e = cc
-
-pub made : (f : ℕ → ℕ) (r : Draw) (v : ℕ) (q : WordSource) → mapDraw f r ≡ Word v q → (w : ℕ) × (r ≡ Word w q) × (v ≡ f w)
-made f (Word w p) v q e = (w, cc, cc)
-made f Dry v q e = never v q e
 
 pub made-two : (f : ℕ → ℕ → ℕ) (r : Pair) (v : ℕ) (q : WordSource) → mapPair f r ≡ Word v q → (a : ℕ) × (b : ℕ) × (r ≡ pair.Words a b q) × (v ≡ f a b)
 made-two f (pair.Words a b p) v q e = (a, b, cc, cc)

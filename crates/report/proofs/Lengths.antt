@@ -1,15 +1,12 @@
 -- How long what is printed can be: a first line has at most 85 bytes, a line of an input at most 54, or 48 where its id is below
 -- 10,000, and a refusal at most 50. Assumes nothing.
-use Prim.Native.Nat.{ℕ, zero, suc, _+_, _*_, _^_, _≤_, _<_}
-use mathlib.Core.Path.{_≡_, refl}
-use mathlib.Core.List.{List, [], _∷_}
-use native.Mathlib.Numerals.{add-one}
+use Prim.Native.Nat.{ℕ, suc, _+_, _^_, _≤_, _<_}
+use mathlib.Core.List.{List}
 use native.Mathlib.Omega.{arith}
 use lib.ListN.{length, length-append}
 use Rattle.text.proofs.Decimals.{decimal-length}
-use Rattle.symbols.specs.Graph.{Id, Value, Graph, Node, constant, input, unary, binary}
-use Rattle.search.specs.Machine.{Values, valueOf, End, solved, spent, ranDry, Out}
-use Rattle.report.specs.Report.{endWord, counts, firstLine, inputLine, lineOf, linesBelow, resultText, spaced, refusalText}
+use Rattle.search.specs.Machine.{End, solved, spent, ranDry, Out}
+use Rattle.report.specs.Report.{endWord, counts, firstLine, inputLine, spaced, refusalText}
 
 input-by : (k i l v : ℕ) → i < 10 ^ suc k → l < 2 ^ 64 → v < 2 ^ 64 → length (inputLine i l v) ≤ 45 + k
 unfolding inputLine

@@ -1,6 +1,6 @@
 -- One law for each `return`. Assumes nothing.
 use Prim.Native.Nat.{ℕ, _+_, _*_, _^_, _≤_, _<_}
-use mathlib.Core.Path.{_≡_, refl, sym, ap, _∙_}
+use mathlib.Core.Path.{_≡_}
 use mathlib.Core.List.{[], _∷_, _++_, append-nil}
 use native.Mathlib.Numerals.{add-one}
 use native.Mathlib.Omega.{arith}
@@ -20,7 +20,7 @@ use Rattle.formula.specs.Graph.{graphOf, nodeIs}
 use Rattle.formula.specs.declared.Formula.{Formula}
 use Rattle.formula.specs.declared.Node.{Node}
 use Rattle.formula.specs.declared.Node.the-variants as node
-use Rattle.search.specs.Machine.{Values, valueOf, Out}
+use Rattle.search.specs.Machine.{Values, valueOf}
 use Rattle.turns.specs.Turn.{endOf, outOf}
 use Rattle.turns.specs.declared.End.{End}
 use Rattle.turns.specs.declared.End.the-variants.{Solved, Spent, Dry}

@@ -1,5 +1,5 @@
 -- One law for each `return`. Assumes nothing.
-use Prim.Native.Nat.{ℕ, zero, suc, _+_, _-_, _*_, _/_, _%_, _≤_, _<_}
+use Prim.Native.Nat.{ℕ, _+_, _-_, _*_, _/_, _%_, _≤_}
 use mathlib.Core.Path.{_≡_, refl, sym, ap, _∙_}
 use mathlib.Core.Bool.{Bool, true, false, not, _||_, true≢false}
 use mathlib.Core.List.{List, [], _∷_, _++_}
@@ -38,7 +38,7 @@ use Rattle.solve.specs.declared.Answer.the-variants as result
 use Rattle.intake.specs.Words.{upTo, wordsOf, wordsBelow}
 use Rattle.intake.proofs.Words.{words-part}
 use Rattle.report.specs.Report.{resultText, refusalText}
-use Rattle.retrysolve.specs.Printed.{budget, textOf, printedWith, printedBy, printed}
+use Rattle.retrysolve.specs.Printed.{budget, textOf, printedWith, printed}
 
 more : {j k : ℕ} {t : Text} {at n : Place} {o p : Text} → j ≤ k → WroteUpTo j t at o p n → WroteUpTo k t at o p n
 more h w = record { wrote = w .wrote; short = omega (arith, w .short) }

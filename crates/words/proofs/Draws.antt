@@ -51,7 +51,7 @@ module _ (ws : Words) (n w : ℕ) (s : WordSource) where
       rw (lt-ltb n (length (ws ++ us)) l, g, sym (h .1), sym (h .2))
 
 -- a word of which something is made
-made : (f : ℕ → ℕ) (d : Draw) (v : ℕ) (s : WordSource) → mapDraw f d ≡ Word v s → (w : ℕ) × (d ≡ Word w s) × (f w ≡ v)
+pub made : (f : ℕ → ℕ) (d : Draw) (v : ℕ) (s : WordSource) → mapDraw f d ≡ Word v s → (w : ℕ) × (d ≡ Word w s) × (v ≡ f w)
 made f (Word w q) v s e = (w, cc, cc)
 made f Dry v s e = let z : _≡_ {A = ℕ} 0 1 = cc in absurd (omega arith)
 
@@ -62,11 +62,11 @@ said f Dry b s e = let z : _≡_ {A = ℕ} 0 1 = cc in absurd (omega arith)
 -- a range
 module _ (ws : Words) (n a b v : ℕ) (s : WordSource) where
   range-by : (c : Bool) → ltb b a ≡ c → pick c Dry (mapDraw (inRange a b) (drawAt ws n)) ≡ Word v s
-      → (a ≤ b) × ((w : ℕ) × (drawAt ws n ≡ Word w s) × (inRange a b w ≡ v))
+      → (a ≤ b) × ((w : ℕ) × (drawAt ws n ≡ Word w s) × (v ≡ inRange a b w))
   range-by true t e = let z : _≡_ {A = ℕ} 0 1 = cc in absurd (omega arith)
   range-by false t e = (ltb-false b a t, made (inRange a b) (drawAt ws n) v s e)
 
-  pub range-is : rangeAt ws n a b ≡ Word v s → (a ≤ b) × ((w : ℕ) × (drawAt ws n ≡ Word w s) × (inRange a b w ≡ v))
+  pub range-is : rangeAt ws n a b ≡ Word v s → (a ≤ b) × ((w : ℕ) × (drawAt ws n ≡ Word w s) × (v ≡ inRange a b w))
   unfolding rangeAt
   range-is e = range-by (ltb b a) refl e
 
@@ -78,14 +78,14 @@ module _ (ws : Words) (n a b v : ℕ) (s : WordSource) where
   in-range w false l h k t e = let m = mod-lt w {m = b - a + 1} (omega arith) in (omega arith, omega arith)
 
   pub range-within : b < 2 ^ 64 → Small ws → rangeAt ws n a b ≡ Word v s → (a ≤ v) × (v ≤ b)
-  range-within h k e = let r = range-is e in in-range (r .1 .0) (eqb (b - a) 0xffff_ffff_ffff_ffff) (r .0) h (draw-small ws n (r .1 .0) s k (r .1 .1)) refl (r .1 .2)
+  range-within h k e = let r = range-is e in in-range (r .1 .0) (eqb (b - a) 0xffff_ffff_ffff_ffff) (r .0) h (draw-small ws n (r .1 .0) s k (r .1 .1)) refl (sym (r .1 .2))
 
   pub range-longer : (us : Words) → rangeAt ws n a b ≡ Word v s → rangeAt (ws ++ us) n a b ≡ Word v s
   unfolding rangeAt
   range-longer us e =
       let h = range-is e in
       let f : ltb b a ≡ false = not-below (ltb b a) refl (h .0) in
-      rw (f, draw-longer ws n (h .1 .0) s us (h .1 .1)) (ap (λ (x : ℕ). Word x s) (h .1 .2))
+      rw (f, draw-longer ws n (h .1 .0) s us (h .1 .1)) (ap (λ (x : ℕ). Word x s) (sym (h .1 .2)))
     where
       not-below : (c : Bool) → ltb b a ≡ c → a ≤ b → ltb b a ≡ false
       not-below true t l = let z = ltb-true b a t in absurd (omega arith)

@@ -1,6 +1,6 @@
 -- `assign::store` meets its contract. Assumes nothing.
 use borrow.Author.Needs.{needs}
-use Rattle.assign.proofs.Passes.{set-past}
+use Rattle.laws.proofs.Lists.{set-past}
 use Rattle.assign.proofs.store.Statement.{statement}
 use Rattle.assign.proofs.store.Tie as tie
 

@@ -1,6 +1,6 @@
 -- `assign::word_at` meets its contract. Assumes nothing.
 use borrow.Author.Needs.{needs}
-use Rattle.assign.proofs.Passes.{read-past}
+use Rattle.laws.proofs.Lists.{read-past}
 use Rattle.assign.proofs.word_at.Statement.{statement}
 use Rattle.assign.proofs.word_at.Tie as tie
 
