@@ -2,10 +2,10 @@
 
 use crate::{
     numbers::{corners, Random},
-    ours::{self, BitvecAnswer, BitvecQuestion, BLOCK},
     report::{conclude, Asked, Report},
 };
 use monster::BitVector;
+use ours::Queue;
 
 const RANDOM_PAIRS: u32 = 1_000_000;
 const RANDOM_TEXTS: u32 = 100_000;
@@ -56,7 +56,7 @@ fn text(a: BitVector) -> Vec<u8> {
 }
 
 /// The original's answer: 1 and a value, or 0 and 0 for none.
-fn original(op: u64, a: u64, b: u64) -> BitvecAnswer {
+fn original(op: u64, a: u64, b: u64) -> [u64; 2] {
     let known = OPERATIONS.get(op as usize);
     let value = known.and_then(|(_, operation)| operation(BitVector(a), BitVector(b)));
     value.map_or([0, 0], |value| [1, value])
@@ -71,11 +71,11 @@ impl Asked for Pair {
     }
 }
 
-/// A report for each operation, and one for the numbers that are none. Questions
-/// wait until a block is full.
+/// A report for each operation, and one for the numbers that are none. An
+/// operation's number and its arguments wait for their answer.
 struct Reports {
     reports: Vec<Report>,
-    waiting: Vec<BitvecQuestion>,
+    waiting: Queue<[u64; 3]>,
 }
 
 impl Reports {
@@ -83,24 +83,22 @@ impl Reports {
         let names = OPERATIONS.iter().map(|(name, _)| *name);
         Reports {
             reports: names.chain(["unknown"]).map(Report::new).collect(),
-            waiting: Vec::new(),
+            waiting: Queue::default(),
         }
     }
 
     fn ask(&mut self, op: u64, a: u64, b: u64) {
-        self.waiting.push([op, a, b]);
-        if self.waiting.len() == BLOCK {
+        self.waiting.bitvec([op, a, b], op, a, b);
+        if self.waiting.is_full() {
             self.compare();
         }
     }
 
     fn compare(&mut self) {
-        let answers = ours::bitvec(&self.waiting);
-        assert_eq!(answers.len(), self.waiting.len());
-        for ([op, a, b], answer) in self.waiting.drain(..).zip(answers) {
+        self.waiting.answer(|[op, a, b], ours| {
             let place = (op as usize).min(OPERATIONS.len());
-            self.reports[place].compare(&Pair(a, b), answer, original(op, a, b));
-        }
+            self.reports[place].compare(&Pair(a, b), ours, &original(op, a, b));
+        });
     }
 
     fn ask_pair(&mut self, a: u64, b: u64) {

@@ -1,8 +1,9 @@
 //! Compares the proved crates with the original Rust.
 
 mod bitvec;
+mod coverage;
+mod files;
 mod numbers;
-mod ours;
 mod report;
 
 fn main() {
@@ -10,8 +11,9 @@ fn main() {
     let command = std::env::args().nth(1).unwrap_or_default();
     let equal = match command.as_str() {
         "bitvec" => bitvec::compare(),
+        "files" => files::compare(),
         _ => {
-            eprintln!("usage: compare bitvec");
+            eprintln!("usage: compare bitvec|files");
             std::process::exit(2);
         }
     };

@@ -7,6 +7,7 @@ fn main() {
     let beside = concat!(env!("CARGO_MANIFEST_DIR"), "/../../target/staticlib");
     let dir = env::var("FFI_LIB_DIR").unwrap_or(beside.to_owned());
     let library = Path::new(&dir).join("libffi.a");
+    let library = fs::canonicalize(&library).unwrap_or(library);
     println!("cargo:rerun-if-env-changed=FFI_LIB_DIR");
     println!("cargo:rerun-if-changed={}", library.display());
     println!("cargo:rerun-if-changed=bridge.c");
@@ -17,8 +18,11 @@ fn main() {
         .unwrap_or_else(|_| panic!("no {library:?}: `rt staticlib ffi` makes it"));
     if machine(&bytes) == target() {
         println!("cargo:rustc-cfg=linked");
-        // By its path, since many systems have another library of this name.
-        println!("cargo:rustc-link-arg-bins={}", library.display());
+        let dir = library.parent().expect("a file is in a folder");
+        println!("cargo:rustc-link-search=native={}", dir.display());
+        // A static library is looked for in that folder alone: many systems have
+        // another one of this name.
+        println!("cargo:rustc-link-lib=static=ffi");
     } else {
         println!("cargo:rustc-env=BRIDGE={}", bridge(&library));
     }

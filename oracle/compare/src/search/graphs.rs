@@ -1,0 +1,249 @@
+//! Random graphs of many shapes, small ones above all.
+
+use super::{
+    paper,
+    trace::{Case, Plan},
+};
+use crate::numbers::Random;
+use monster::{
+    BVOperator::{self, *},
+    Node,
+};
+
+const BINARY: [BVOperator; 8] = [Add, Sub, Mul, Divu, Sltu, Remu, Equals, BitwiseAnd];
+
+/// A graph with its root. Nearly all are accepted; a constant root other than 1 is not.
+pub fn plan(random: &mut Random) -> Plan {
+    let mut builder = Builder::new(random);
+    builder.shape();
+    if builder.random.below(3) > 0 {
+        builder.goal();
+    }
+    let root = builder.root();
+    Plan {
+        nodes: builder.nodes,
+        root,
+    }
+}
+
+struct Builder<'a> {
+    nodes: Vec<Node>,
+    random: &'a mut Random,
+    palette: Vec<BVOperator>,
+    constants: u64,
+}
+
+impl Builder<'_> {
+    /// Of all operators or of few; of many constants, few or none.
+    fn new(random: &mut Random) -> Builder<'_> {
+        let palette = match random.below(2) {
+            0 => BINARY.to_vec(),
+            _ => (0..=random.below(3))
+                .map(|_| BINARY[random.below(8) as usize])
+                .collect(),
+        };
+        let constants = [0, 2, 5][random.below(3) as usize];
+        Builder {
+            nodes: Vec::new(),
+            random,
+            palette,
+            constants,
+        }
+    }
+
+    fn push(&mut self, node: Node) -> usize {
+        self.nodes.push(node);
+        self.nodes.len() - 1
+    }
+
+    fn constant(&mut self) -> usize {
+        let value = match self.random.below(3) {
+            0 => self.random.below(4),
+            _ => self.random.number(),
+        };
+        self.push(Node::Constant(value))
+    }
+
+    /// Labels repeat often.
+    fn input(&mut self) -> usize {
+        let label = match self.random.below(2) {
+            0 => self.random.below(3),
+            _ => self.random.number(),
+        };
+        self.push(Node::Input(label))
+    }
+
+    fn leaf(&mut self) -> usize {
+        match self.random.below(10) < self.constants {
+            true => self.constant(),
+            false => self.input(),
+        }
+    }
+
+    fn any(&mut self) -> usize {
+        self.random.below(self.nodes.len() as u64) as usize
+    }
+
+    fn binary(&mut self, left: usize, right: usize) -> usize {
+        let op = self.palette[self.random.below(self.palette.len() as u64) as usize];
+        self.push(Node::Binary(op, left, right))
+    }
+
+    /// Now and then a Not comes between.
+    fn operator(&mut self, left: usize, right: usize) -> usize {
+        let left = match self.random.below(8) {
+            0 => self.push(Node::Not(left)),
+            _ => left,
+        };
+        match self.random.below(2) {
+            0 => self.binary(left, right),
+            _ => self.binary(right, left),
+        }
+    }
+
+    /// Mostly few, sometimes some, rarely many.
+    fn size(&mut self) -> u64 {
+        match self.random.below(2_000) {
+            0 => self.random.below(1_200),
+            1..10 => self.random.below(200),
+            10..200 => self.random.below(40),
+            _ => self.random.below(7),
+        }
+    }
+
+    fn shape(&mut self) {
+        match self.random.below(16) {
+            0 => self.leaves(),
+            1 => self.nots(),
+            2 => self.ladder(),
+            3..6 => self.chain(),
+            6..10 => self.tree(),
+            10..12 => self.collision(),
+            _ => self.shared(),
+        };
+    }
+
+    fn leaves(&mut self) -> usize {
+        for _ in 0..self.random.below(3) {
+            self.leaf();
+        }
+        self.leaf()
+    }
+
+    fn nots(&mut self) -> usize {
+        self.shared();
+        let mut top = self.any();
+        for _ in 0..=self.size() {
+            top = self.push(Node::Not(top));
+        }
+        top
+    }
+
+    /// Each operator over the one below it, twice.
+    fn ladder(&mut self) -> usize {
+        let mut top = self.leaf();
+        for _ in 0..=self.random.below(16) {
+            top = self.binary(top, top);
+        }
+        top
+    }
+
+    /// Each operator over the one below it and a leaf.
+    fn chain(&mut self) -> usize {
+        let mut top = self.leaf();
+        for _ in 0..=self.size() {
+            let leaf = self.leaf();
+            top = self.operator(top, leaf);
+        }
+        top
+    }
+
+    /// Each node used once.
+    fn tree(&mut self) -> usize {
+        let mut open: Vec<usize> = (0..2 + self.size()).map(|_| self.leaf()).collect();
+        while open.len() > 1 {
+            let left = open.swap_remove(self.random.below(open.len() as u64) as usize);
+            let right = open.swap_remove(self.random.below(open.len() as u64) as usize);
+            open.push(self.operator(left, right));
+        }
+        open[0]
+    }
+
+    /// Operands taken from all nodes so far.
+    fn shared(&mut self) -> usize {
+        for _ in 0..=self.random.below(4) {
+            self.leaf();
+        }
+        for _ in 0..=self.size() {
+            let (left, right) = (self.any(), self.any());
+            self.operator(left, right);
+        }
+        self.nodes.len() - 1
+    }
+
+    /// Two copies of a policy, with equal slots and different attempts.
+    fn collision(&mut self) -> usize {
+        let slot = self.shared();
+        let count = self.nodes.len();
+        let attempt = self.any();
+        for id in 0..count {
+            let copy = moved(self.nodes[id], count);
+            self.push(copy);
+        }
+        let slots = self.push(Node::Binary(Equals, slot, slot + count));
+        let attempts = self.push(Node::Binary(Equals, attempt, attempt + count));
+        let differ = self.push(Node::Not(attempts));
+        self.push(Node::Binary(BitwiseAnd, slots, differ))
+    }
+
+    /// A comparison on top, with a value that the top can have, a constant or
+    /// another node: it makes 1 likelier.
+    fn goal(&mut self) {
+        let top = self.nodes.len() - 1;
+        let other = match self.random.below(4) {
+            0 => self.constant(),
+            1 => self.any(),
+            _ => self.value_of(top),
+        };
+        self.palette = vec![Equals, Sltu];
+        self.operator(top, other);
+    }
+
+    /// A constant that the node is for some inputs.
+    fn value_of(&mut self, top: usize) -> usize {
+        let plan = Plan {
+            nodes: self.nodes.clone(),
+            root: top,
+        };
+        let words: Vec<u64> = self.nodes.iter().map(|_| self.random.number()).collect();
+        let start = Case {
+            plan: &plan,
+            words: &words,
+            budget: 0,
+        };
+        match paper::run(&start) {
+            Ok(run) => self.push(Node::Constant(run.log.start[top])),
+            Err(_) => self.constant(),
+        }
+    }
+
+    /// The top, or any node; a constant there is mostly made 1.
+    fn root(&mut self) -> usize {
+        let root = match self.random.below(6) {
+            0 => self.any(),
+            _ => self.nodes.len() - 1,
+        };
+        if matches!(self.nodes[root], Node::Constant(_)) && self.random.below(10) > 0 {
+            self.nodes[root] = Node::Constant(1);
+        }
+        root
+    }
+}
+
+fn moved(node: Node, by: usize) -> Node {
+    match node {
+        Node::Constant(_) | Node::Input(_) => node,
+        Node::Not(operand) => Node::Not(operand + by),
+        Node::Binary(op, left, right) => Node::Binary(op, left + by, right + by),
+    }
+}

@@ -1,0 +1,35 @@
+//! Whole runs on random graphs: the Rust against the plain reading of document
+//! 01, choice by choice and round by round.
+
+mod cells;
+mod compared;
+mod file;
+mod graphs;
+mod panics;
+mod paper;
+mod roots;
+mod runs;
+mod rust;
+mod sides;
+mod trace;
+
+use crate::numbers::Random;
+use compared::Compared;
+
+const GRAPHS: u64 = 100_000;
+const SEED: u64 = 3;
+
+/// `search`, or `search GRAPHS SEED` for other graphs.
+pub fn compare() -> bool {
+    let number = |place: usize| std::env::args().nth(place).map(|text| text.parse());
+    let graphs = number(2).map_or(GRAPHS, |n| n.expect("the number of graphs"));
+    let seed = number(3).map_or(SEED, |n| n.expect("the seed"));
+
+    let mut random = Random::new(seed);
+    let mut compared = Compared::new();
+    for _ in 0..graphs {
+        let plan = graphs::plan(&mut random);
+        runs::ask(&plan, &mut random, &mut compared);
+    }
+    compared.conclude(graphs)
+}

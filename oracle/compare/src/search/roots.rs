@@ -1,0 +1,59 @@
+//! How often each kind of root came to each ending.
+
+use super::{file, trace::Plan};
+use crate::coverage::Coverage;
+use monster::{End, Run};
+
+const KINDS: [&str; 11] = [
+    "Constant",
+    "Input",
+    "Add",
+    "Sub",
+    "Mul",
+    "Divu",
+    "Sltu",
+    "Remu",
+    "Not",
+    "Equals",
+    "BitwiseAnd",
+];
+const LEAVES: usize = 2;
+
+pub const ENDS: [&str; 4] = ["solved", "spent", "dry", "panicked"];
+
+/// The place of an ending among ENDS.
+pub fn place(end: &End) -> usize {
+    match end {
+        End::Solved => 0,
+        End::Spent => 1,
+        End::Dry => 2,
+        End::Panicked(_) => 3,
+    }
+}
+
+pub struct Roots([[u64; ENDS.len()]; KINDS.len()]);
+
+impl Roots {
+    pub fn new() -> Roots {
+        Roots(Default::default())
+    }
+
+    pub fn count(&mut self, plan: &Plan, run: &Run) {
+        let kind = file::kind(&plan.nodes[plan.root]) as usize;
+        self.0[kind][place(&run.end)] += 1;
+    }
+
+    /// A leaf as root is solved at once or after one round; other roots end in every way.
+    pub fn print(&self, coverage: &mut Coverage) {
+        for (kind, counts) in self.0.iter().enumerate() {
+            let name = format!("root {}", KINDS[kind]);
+            let counts: Vec<(u64, &str)> = counts.iter().copied().zip(ENDS).collect();
+            if kind < LEAVES {
+                coverage.line(&name, &counts[..1], true);
+                coverage.line(&name, &counts[1..], false);
+            } else {
+                coverage.line(&name, &counts, true);
+            }
+        }
+    }
+}

@@ -1,0 +1,64 @@
+//! What is asked of a search, and what document 01 lets be seen of it.
+
+use crate::report::Asked;
+use monster::{Node, OperandSide};
+
+#[derive(Clone, Debug)]
+pub struct Plan {
+    pub nodes: Vec<Node>,
+    pub root: usize,
+}
+
+#[derive(Clone, Copy, Debug)]
+pub struct Case<'a> {
+    pub plan: &'a Plan,
+    pub words: &'a [u64],
+    pub budget: u32,
+}
+
+impl Asked for Case<'_> {
+    fn size(&self) -> Vec<u64> {
+        let nodes = self.plan.nodes.len() as u64;
+        vec![nodes, self.words.len() as u64, self.budget.into()]
+    }
+}
+
+#[derive(Clone, Copy, Debug, PartialEq, Eq)]
+pub enum Ending {
+    Solved,
+    Spent,
+    Dry,
+}
+
+#[derive(Clone, Copy, Debug, PartialEq, Eq)]
+pub enum How {
+    Not,
+    Inverse,
+    Consistent,
+}
+
+/// One completed step; Not has no side.
+#[derive(Clone, Copy, Debug, PartialEq, Eq)]
+pub struct Choice {
+    pub node: usize,
+    pub side: Option<OperandSide>,
+    pub value: u64,
+    pub how: How,
+}
+
+#[derive(Clone, Copy, Debug, PartialEq, Eq)]
+pub struct Outcome {
+    pub ending: Ending,
+    pub rounds: u64,
+    pub lost: u64,
+    pub steps: u64,
+    pub words: u64,
+}
+
+/// The values after the start and after each completed round, every choice,
+/// and the outcome (none where the Rust panicked).
+pub struct Trace {
+    pub states: Vec<Vec<u64>>,
+    pub choices: Vec<Choice>,
+    pub outcome: Option<Outcome>,
+}

@@ -1,0 +1,53 @@
+//! The static library in a program of its own, which an emulator runs.
+
+use std::{
+    cell::RefCell,
+    env,
+    io::{self, Read, Write},
+    process::{Child, Command, Stdio},
+};
+
+thread_local! {
+    static BRIDGE: RefCell<Child> = RefCell::new(start());
+}
+
+fn start() -> Child {
+    let Ok(emulator) = env::var("FFI_EMULATOR") else {
+        eprintln!("the static library is for another processor: FFI_EMULATOR names its emulator");
+        std::process::exit(2);
+    };
+    let mut command = Command::new(emulator);
+    command.arg(env!("BRIDGE"));
+    command.stdin(Stdio::piped()).stdout(Stdio::piped());
+    command.spawn().expect("the emulator starts")
+}
+
+/// The answers to a block of messages.
+pub fn answer(block: &[u64]) -> Vec<u64> {
+    BRIDGE.with_borrow_mut(|bridge| {
+        send(bridge, block).expect("the bridge reads");
+        receive(bridge).expect("the bridge answers")
+    })
+}
+
+/// The bridge reads a whole block before it writes, so neither waits for the other.
+fn send(bridge: &mut Child, block: &[u64]) -> io::Result<()> {
+    let numbers = std::iter::once(block.len() as u64).chain(block.iter().copied());
+    let bytes: Vec<u8> = numbers.flat_map(u64::to_le_bytes).collect();
+    let input = bridge.stdin.as_mut().expect("a pipe");
+    input.write_all(&bytes)?;
+    input.flush()
+}
+
+fn receive(bridge: &mut Child) -> io::Result<Vec<u64>> {
+    let output = bridge.stdout.as_mut().expect("a pipe");
+    let mut count = [0; 8];
+    output.read_exact(&mut count)?;
+    let mut bytes = vec![0; 8 * u64::from_le_bytes(count) as usize];
+    output.read_exact(&mut bytes)?;
+    let (eights, _) = bytes.as_chunks();
+    Ok(eights
+        .iter()
+        .map(|eight| u64::from_le_bytes(*eight))
+        .collect())
+}

@@ -1,0 +1,34 @@
+//! What is sent to the library: a block of messages. A message is one number, the
+//! function's in its low byte and above it how many numbers follow, and these.
+
+/// Lends a file: its length in bytes, and its bytes, eight to a number.
+pub const FILE: u64 = 0;
+/// An operation of BitVector: its number and both arguments.
+pub const BITVEC: u64 = 1;
+/// Checks the lent file.
+pub const CHECK: u64 = 2;
+
+/// The length of an answer.
+pub fn width(function: u64) -> usize {
+    match function {
+        BITVEC => 2,
+        CHECK => 3,
+        _ => 0,
+    }
+}
+
+pub fn push(block: &mut Vec<u64>, function: u64, parts: &[&[u64]]) {
+    let count: usize = parts.iter().map(|part| part.len()).sum();
+    block.push(function | (count as u64) << 8);
+    parts.iter().for_each(|part| block.extend_from_slice(part));
+}
+
+/// The bytes of a file, eight to a number, the last number filled up with zeros.
+pub fn packed(bytes: &[u8]) -> Vec<u64> {
+    let number = |eight: &[u8]| {
+        let mut filled = [0; 8];
+        filled[..eight.len()].copy_from_slice(eight);
+        u64::from_le_bytes(filled)
+    };
+    bytes.chunks(8).map(number).collect()
+}

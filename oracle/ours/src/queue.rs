@@ -1,0 +1,73 @@
+//! Questions that wait until a block of them is full: the bridge takes as long for
+//! one as for a thousand.
+
+use crate::{
+    library,
+    message::{self, packed, push},
+};
+use std::collections::BTreeMap;
+
+/// How many numbers a block holds, about.
+const BLOCK: usize = 1 << 17;
+
+/// Each question waits with what its asker wants to know when it is answered.
+pub struct Queue<T> {
+    block: Vec<u64>,
+    /// By its function what is lent last: every block lends it anew.
+    lent: BTreeMap<u64, Vec<u64>>,
+    asked: Vec<(T, usize)>,
+}
+
+impl<T> Default for Queue<T> {
+    fn default() -> Queue<T> {
+        Queue {
+            block: Vec::new(),
+            lent: BTreeMap::new(),
+            asked: Vec::new(),
+        }
+    }
+}
+
+impl<T> Queue<T> {
+    pub fn lend_file(&mut self, file: &[u8]) {
+        let length = [file.len() as u64];
+        self.lend(message::FILE, &[&length, &packed(file)]);
+    }
+
+    fn lend(&mut self, function: u64, parts: &[&[u64]]) {
+        let lent = self.lent.entry(function).or_default();
+        lent.clear();
+        push(lent, function, parts);
+        self.block.extend_from_slice(lent);
+    }
+
+    pub fn bitvec(&mut self, asker: T, op: u64, a: u64, b: u64) {
+        self.ask(asker, message::BITVEC, &[&[op, a, b]]);
+    }
+
+    pub fn check(&mut self, asker: T) {
+        self.ask(asker, message::CHECK, &[]);
+    }
+
+    fn ask(&mut self, asker: T, function: u64, parts: &[&[u64]]) {
+        push(&mut self.block, function, parts);
+        self.asked.push((asker, message::width(function)));
+    }
+
+    pub fn is_full(&self) -> bool {
+        self.block.len() >= BLOCK
+    }
+
+    /// Each asker with its answer, in the order of the questions.
+    pub fn answer(&mut self, mut each: impl FnMut(T, &[u64])) {
+        let answers = library::answer(&self.block);
+        let mut rest = answers.as_slice();
+        for (asker, width) in self.asked.drain(..) {
+            let (answer, after) = rest.split_at(width);
+            each(asker, answer);
+            rest = after;
+        }
+        assert!(rest.is_empty(), "every answer belongs to a question");
+        self.block = self.lent.values().flatten().copied().collect();
+    }
+}
