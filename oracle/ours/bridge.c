@@ -6,20 +6,22 @@ typedef unsigned long u64;
 typedef unsigned char u8;
 
 enum { READ = 0, WRITE = 1, EXIT = 231, MOST = 1 << 21 };
-enum { FILE, BITVEC, CHECK };
+enum { FILE, BITVEC, CHECK, WORDS, RULE };
 
 /* What an unwritten entry holds, so that it is not taken for an answer. */
 static const u64 UNWRITTEN = 0xdeadbeefdeadbeef;
 
 void bitvec_op(u64 op, u64 a, u64 b, u64 *out, u64 out_len);
 void check_file(const u8 *file, u64 file_len, u64 *out, u64 out_len);
+void rule_op(u64 rule, u64 op, u64 side, u64 s, u64 t, const u64 *words, u64 words_len,
+             u64 at, u64 *out, u64 out_len);
 
 /* No answer is more than three times as long as its message. */
 static u64 block[MOST], answers[1 + 3 * MOST], *end;
 
 /* What is lent lies in the block. */
-static const u64 *file;
-static u64 file_len;
+static const u64 *file, *words;
+static u64 file_len, words_len;
 
 static long call(long number, long a, long b, long c)
 {
@@ -61,6 +63,10 @@ static void answer(u64 function, u64 *q, u64 count)
         bitvec_op(q[0], q[1], q[2], room(2), 2);
     else if (function == CHECK)
         check_file((const u8 *)file, file_len, room(3), 3);
+    else if (function == WORDS)
+        words = q, words_len = count;
+    else if (function == RULE)
+        rule_op(q[0], q[1], q[2], q[3], q[4], words, words_len, q[5], room(3), 3);
     else
         call(EXIT, 3, 0, 0);
 }

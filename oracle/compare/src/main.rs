@@ -5,6 +5,7 @@ mod coverage;
 mod files;
 mod numbers;
 mod report;
+mod rules;
 
 fn main() {
     monster::refuse_other_builds();
@@ -12,8 +13,9 @@ fn main() {
     let equal = match command.as_str() {
         "bitvec" => bitvec::compare(),
         "files" => files::compare(),
+        "rules" => rules::compare(),
         _ => {
-            eprintln!("usage: compare bitvec|files");
+            eprintln!("usage: compare bitvec|files|rules");
             std::process::exit(2);
         }
     };

@@ -28,14 +28,15 @@ impl Report {
         self.compared += 1;
         if found != expected {
             self.different += 1;
-            self.keep(asked, format!("{found:?} instead of {expected:?}"));
+            self.keep(asked, || format!("{found:?} instead of {expected:?}"));
         }
     }
 
-    fn keep(&mut self, asked: &impl Asked, answers: String) {
+    /// A text is made for the smallest alone: a difference can occur millions of times.
+    fn keep(&mut self, asked: &impl Asked, answers: impl FnOnce() -> String) {
         let size = asked.size();
         if self.smallest.as_ref().is_none_or(|(kept, _)| size < *kept) {
-            self.smallest = Some((size, format!("{asked:?}: {answers}")));
+            self.smallest = Some((size, format!("{asked:?}: {}", answers())));
         }
     }
 

@@ -1,7 +1,7 @@
 //! The static library, linked into this program.
 
 use crate::{
-    message::{BITVEC, CHECK, FILE},
+    message::{BITVEC, CHECK, FILE, RULE, WORDS},
     raw,
 };
 
@@ -22,24 +22,43 @@ fn check(file: &[u8]) -> [u64; 3] {
     out
 }
 
+fn rule(asked: &[u64], words: &[u64]) -> [u64; 3] {
+    let &[rule, op, side, s, t, at] = asked else {
+        panic!("a rule has six arguments");
+    };
+    let (list, length) = (words.as_ptr(), words.len());
+    let mut out = [UNWRITTEN; 3];
+    let (place, room) = (out.as_mut_ptr(), out.len());
+    unsafe { raw::rule_op(rule, op, side, s, t, list, length, at as usize, place, room) };
+    out
+}
+
+#[derive(Default)]
+struct Lent<'a> {
+    file: Vec<u8>,
+    words: &'a [u64],
+}
+
 /// The answers to a block of messages.
 pub fn answer(block: &[u64]) -> Vec<u64> {
-    let mut file = Vec::new();
+    let mut lent = Lent::default();
     let mut answers = Vec::new();
     let mut rest = block;
     while let [head, after @ ..] = rest {
         let (asked, after) = after.split_at((*head >> 8) as usize);
-        one(*head & 255, asked, &mut file, &mut answers);
+        one(*head & 255, asked, &mut lent, &mut answers);
         rest = after;
     }
     answers
 }
 
-fn one(function: u64, asked: &[u64], file: &mut Vec<u8>, answers: &mut Vec<u64>) {
+fn one<'a>(function: u64, asked: &'a [u64], lent: &mut Lent<'a>, answers: &mut Vec<u64>) {
     match (function, asked) {
-        (FILE, [length, packed @ ..]) => *file = unpacked(packed, *length),
+        (FILE, [length, packed @ ..]) => lent.file = unpacked(packed, *length),
         (BITVEC, &[op, a, b]) => answers.extend(bitvec(op, a, b)),
-        (CHECK, []) => answers.extend(check(file)),
+        (CHECK, []) => answers.extend(check(&lent.file)),
+        (WORDS, words) => lent.words = words,
+        (RULE, asked) => answers.extend(rule(asked, lent.words)),
         _ => panic!("no such message"),
     }
 }

@@ -7,12 +7,16 @@ pub const FILE: u64 = 0;
 pub const BITVEC: u64 = 1;
 /// Checks the lent file.
 pub const CHECK: u64 = 2;
+/// Lends a list of words.
+pub const WORDS: u64 = 3;
+/// A rule, over the lent words: rule, operator, side, s, t and the place.
+pub const RULE: u64 = 4;
 
 /// The length of an answer.
 pub fn width(function: u64) -> usize {
     match function {
         BITVEC => 2,
-        CHECK => 3,
+        CHECK | RULE => 3,
         _ => 0,
     }
 }

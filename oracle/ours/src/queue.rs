@@ -34,6 +34,10 @@ impl<T> Queue<T> {
         self.lend(message::FILE, &[&length, &packed(file)]);
     }
 
+    pub fn lend_words(&mut self, words: &[u64]) {
+        self.lend(message::WORDS, &[words]);
+    }
+
     fn lend(&mut self, function: u64, parts: &[&[u64]]) {
         let lent = self.lent.entry(function).or_default();
         lent.clear();
@@ -47,6 +51,11 @@ impl<T> Queue<T> {
 
     pub fn check(&mut self, asker: T) {
         self.ask(asker, message::CHECK, &[]);
+    }
+
+    /// Rule, operator, side, s, t and the place among the words.
+    pub fn rule(&mut self, asker: T, asked: [u64; 6]) {
+        self.ask(asker, message::RULE, &[&asked]);
     }
 
     fn ask(&mut self, asker: T, function: u64, parts: &[&[u64]]) {

@@ -11,21 +11,19 @@ mod rust;
 
 use crate::{
     coverage::Coverage,
-    ours::BLOCK,
-    report::{conclude, Report},
+    report::{conclude, Asked, Report},
 };
+use ::ours::Queue;
 use draws::Draws;
 use monster::{Known, Place};
-use question::{Answer, Question};
+use question::Question;
 use rows::Rows;
 use rust::Rust;
 
 /// All known places but the search's own: no single rule reaches a constant.
 const PLACES: [Known; 3] = [Known::InverseMul, Known::InverseRemu, Known::ConsistentDivu];
 
-/// Questions wait until a block is full.
 struct Comparison {
-    waiting: Vec<Question>,
     ours: Report,
     rust: Report,
     panics: Report,
@@ -36,7 +34,6 @@ struct Comparison {
 
 pub fn compare() -> bool {
     let mut all = Comparison {
-        waiting: Vec::new(),
         ours: Report::new("ours"),
         rust: Report::new("the Rust"),
         panics: Report::new("its panics"),
@@ -44,33 +41,41 @@ pub fn compare() -> bool {
         draws: Draws::new(),
         places: [0; PLACES.len()],
     };
-    questions::ask(&mut |question| all.ask(question));
-    all.answer();
+    let mut waiting = Queue::default();
+    questions::ask(&mut |question| {
+        ours::ask(question, &mut waiting);
+        if waiting.is_full() {
+            waiting.answer(|question, ours| all.compare(&question, ours));
+        }
+    });
+    waiting.answer(|question, ours| all.compare(&question, ours));
     let mut coverage = Coverage::default();
     all.print(&mut coverage);
-    conclude("rules", &[all.ours, all.rust, all.panics]) & coverage.conclude()
+    conclude("rules", &[all.ours, unknown(), all.rust, all.panics]) & coverage.conclude()
+}
+
+impl Asked for [u64; 6] {
+    fn size(&self) -> Vec<u64> {
+        self.to_vec()
+    }
+}
+
+/// What is asked of no rule, no operator or no side.
+fn unknown() -> Report {
+    let mut report = Report::new("unknown");
+    let mut waiting = Queue::default();
+    waiting.lend_words(&[0; 8]);
+    for asked in ours::unknown() {
+        waiting.rule(asked, asked);
+    }
+    waiting.answer(|asked, ours| report.compare(&asked, ours, &ours::unknown_answer(asked)));
+    report
 }
 
 impl Comparison {
-    fn ask(&mut self, question: Question) {
-        self.waiting.push(question);
-        if self.waiting.len() == BLOCK {
-            self.answer();
-        }
-    }
-
-    fn answer(&mut self) {
-        let waiting = std::mem::take(&mut self.waiting);
-        let answers = ours::answers(&waiting);
-        assert_eq!(answers.len(), waiting.len());
-        for (question, ours) in waiting.iter().zip(answers) {
-            self.compare(question, ours);
-        }
-    }
-
-    fn compare(&mut self, question: &Question, ours: Answer) {
+    fn compare(&mut self, question: &Question, ours: &[u64]) {
         let paper = paper::answer(question);
-        self.ours.compare(question, ours, paper);
+        self.ours.compare(question, ours, &paper);
         match rust::answer(question) {
             Rust::Answers(rust) => self.rust.compare(question, rust, paper),
             Rust::Panics(place) => self.panicked(question, &place),

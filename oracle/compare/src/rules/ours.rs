@@ -1,47 +1,38 @@
 //! The proved rules.
 
-use super::question::{Answer, Question, Rule};
-use crate::ours::{self, RuleQuestion};
+use super::question::{Answer, Question};
+use ours::Queue;
 
-pub fn answers(questions: &[Question]) -> Vec<Answer> {
-    let asked: Vec<RuleQuestion> = questions.iter().map(numbers).collect();
-    let mut answers = ours::rule(&asked);
-    for (question, answer) in questions.iter().zip(&mut answers) {
-        if question.rule == Rule::Table {
-            answer[2] = 0; // the table's answer has two entries
-        }
-    }
-    answers
+/// Document 01's kinds of operators lie from 2 to 10.
+const UNKNOWN_OPERATORS: [u64; 6] = [0, 1, 11, 255, (1 << 32) + 2, u64::MAX];
+const UNKNOWN_RULES: [u64; 3] = [4, 1 << 32, u64::MAX];
+const UNKNOWN_SIDES: [u64; 3] = [2, 1 << 32, u64::MAX];
+
+pub fn ask(question: Question, waiting: &mut Queue<Question>) {
+    let Question { s, t, at, .. } = question;
+    let (rule, side) = (question.rule as u64, question.side as u64);
+    waiting.lend_words(question.words());
+    waiting.rule(question, [rule, question.kind(), side, s, t, at as u64]);
 }
 
-fn numbers(question: &Question) -> RuleQuestion {
-    let Question {
-        s,
-        t,
-        at,
-        length,
-        lent,
-        ..
-    } = *question;
-    let [a, b, c, d, e, f, g, h] = lent;
-    let rule = question.rule as u64;
-    let side = question.side as u64;
-    let (at, length) = (at as u64, length as u64);
-    [
-        rule,
-        question.kind(),
-        side,
-        s,
-        t,
-        at,
-        length,
-        a,
-        b,
-        c,
-        d,
-        e,
-        f,
-        g,
-        h,
-    ]
+/// Rules, operators and sides that there are not, beside some that there are.
+pub fn unknown() -> Vec<[u64; 6]> {
+    let mut all = Vec::new();
+    for known in 0..4 {
+        for rule in UNKNOWN_RULES {
+            all.push([rule, 2 + known, known % 2, 5, 3, known]);
+        }
+        for op in UNKNOWN_OPERATORS {
+            all.push([known, op, known % 2, 5, 3, known]);
+        }
+        for op in 2..11 {
+            all.extend(UNKNOWN_SIDES.map(|side| [known, op, side, 5, 3, known]));
+        }
+    }
+    all
+}
+
+/// What is answered to each of them.
+pub fn unknown_answer([.., at]: [u64; 6]) -> Answer {
+    [99, 0, at]
 }

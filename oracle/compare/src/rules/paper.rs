@@ -13,7 +13,7 @@ pub fn answer(question: &Question) -> Answer {
     let words = question.words();
     let (op, side) = (operator(question.op), side(question.side));
     match question.rule {
-        Rule::Table => [1, reachable(op, side, s, t).into(), 0],
+        Rule::Table => [1, reachable(op, side, s, t).into(), at as u64],
         Rule::Inverse => drawn(question, inverse(op, side, s, t, words, at)),
         Rule::Consistent => drawn(question, consistent(op, side, t, words, at)),
         Rule::Unary => drawn(question, unary(op, t).map(|value| (value, at))),

@@ -28,7 +28,7 @@ pub struct Question {
 }
 
 /// A value is 0, the value and the place after its words; a refusal is its
-/// number, 0 and the place asked at; the table says 1, then 0 or 1 (and 0).
+/// number, 0 and the place asked at; the table says 1, then 0 or 1, and that place.
 pub type Answer = [u64; 3];
 
 impl Question {

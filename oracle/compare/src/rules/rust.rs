@@ -17,7 +17,10 @@ pub fn answer(question: &Question) -> Rust {
     let words = question.words();
     let binary = op != BVOperator::Not;
     match question.rule {
-        Rule::Table => Rust::Answers([1, monster::table(op, side, s, t).into(), 0]),
+        Rule::Table => {
+            let yes = monster::table(op, side, s, t);
+            Rust::Answers([1, yes.into(), at as u64])
+        }
         Rule::Inverse if binary && monster::table(op, side, s, t) => {
             drawn(question, monster::inverse(op, side, s, t, words, at))
         }
