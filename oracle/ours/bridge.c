@@ -3,10 +3,11 @@
    length, and writes all answers behind theirs. At the end of its input it ends. */
 
 typedef unsigned long u64;
+typedef unsigned int u32;
 typedef unsigned char u8;
 
 enum { READ = 0, WRITE = 1, EXIT = 231, MOST = 1 << 21 };
-enum { FILE, BITVEC, CHECK, WORDS, RULE };
+enum { FILE, BITVEC, CHECK, WORDS, RULE, VALUES, STEP, SOLVE };
 
 /* What an unwritten entry holds, so that it is not taken for an answer. */
 static const u64 UNWRITTEN = 0xdeadbeefdeadbeef;
@@ -15,13 +16,18 @@ void bitvec_op(u64 op, u64 a, u64 b, u64 *out, u64 out_len);
 void check_file(const u8 *file, u64 file_len, u64 *out, u64 out_len);
 void rule_op(u64 rule, u64 op, u64 side, u64 s, u64 t, const u64 *words, u64 words_len,
              u64 at, u64 *out, u64 out_len);
+void step_op(const u8 *file, u64 file_len, const u64 *words, u64 words_len,
+             const u64 *values, u64 values_len, u32 node, u64 target, u64 at,
+             u64 *out, u64 out_len);
+void solve_file(const u8 *file, u64 file_len, const u64 *words, u64 words_len, u32 budget,
+                u64 *values, u64 values_len, u64 *out, u64 out_len);
 
 /* No answer is more than three times as long as its message. */
 static u64 block[MOST], answers[1 + 3 * MOST], *end;
 
 /* What is lent lies in the block. */
-static const u64 *file, *words;
-static u64 file_len, words_len;
+static const u64 *file, *words, *values;
+static u64 file_len, words_len, values_len;
 
 static long call(long number, long a, long b, long c)
 {
@@ -55,6 +61,14 @@ static u64 *room(u64 count)
     return out;
 }
 
+static void solve(u32 budget, u64 *lent, u64 lent_len)
+{
+    u64 *out = room(6 + lent_len);
+    solve_file((const u8 *)file, file_len, words, words_len, budget, lent, lent_len, out, 6);
+    for (u64 i = 0; i < lent_len; i++)
+        out[6 + i] = lent[i];
+}
+
 static void answer(u64 function, u64 *q, u64 count)
 {
     if (function == FILE)
@@ -67,6 +81,13 @@ static void answer(u64 function, u64 *q, u64 count)
         words = q, words_len = count;
     else if (function == RULE)
         rule_op(q[0], q[1], q[2], q[3], q[4], words, words_len, q[5], room(3), 3);
+    else if (function == VALUES)
+        values = q, values_len = count;
+    else if (function == STEP)
+        step_op((const u8 *)file, file_len, words, words_len, values, values_len,
+                q[0], q[1], q[2], room(6), 6);
+    else if (function == SOLVE)
+        solve(q[0], q + 1, count - 1);
     else
         call(EXIT, 3, 0, 0);
 }

@@ -4,8 +4,11 @@ mod bitvec;
 mod coverage;
 mod files;
 mod numbers;
+mod record;
+mod replay;
 mod report;
 mod rules;
+mod search;
 
 fn main() {
     monster::refuse_other_builds();
@@ -14,8 +17,11 @@ fn main() {
         "bitvec" => bitvec::compare(),
         "files" => files::compare(),
         "rules" => rules::compare(),
+        "search" => search::compare(),
+        "record" => record::record(),
+        "replay" => replay::replay(),
         _ => {
-            eprintln!("usage: compare bitvec|files|rules");
+            eprintln!("usage: compare bitvec|files|rules|search|record|replay");
             std::process::exit(2);
         }
     };

@@ -41,9 +41,9 @@ impl Report {
     }
 
     fn print(&self) {
-        println!("{:12} {:9} comparisons", self.name, self.compared);
+        println!("{:14} {:9} comparisons", self.name, self.compared);
         if let Some((_, text)) = &self.smallest {
-            println!("{:12} {:9} DIFFERENT: {text}", "", self.different);
+            println!("{:14} {:9} DIFFERENT: {text}", "", self.different);
         }
     }
 }

@@ -16,13 +16,15 @@ pub enum How {
     Unreachable,
 }
 
-/// A completed step: its node, the side it went to (none at Not) and the value.
+/// A completed step: its node, the side it went to (none at Not), the value, and
+/// the words taken by its end.
 #[derive(Clone, Copy, Debug, PartialEq, Eq)]
 pub struct Choice {
     pub node: SymbolId,
     pub side: Option<OperandSide>,
     pub value: u64,
     pub how: How,
+    pub words: usize,
 }
 
 /// The values after the start and after each completed round, and all choices.
@@ -97,6 +99,7 @@ pub fn chose(node: SymbolId, side: OperandSide, value: BitVector) -> BitVector {
             side: Some(side),
             value: value.0,
             how,
+            words: words::finished(),
         })
     });
     value
@@ -110,6 +113,7 @@ pub fn passed(node: SymbolId, value: BitVector) -> BitVector {
             side: None,
             value: value.0,
             how,
+            words: words::finished(),
         })
     });
     value

@@ -1,5 +1,6 @@
 //! The static library in a program of its own, which an emulator runs.
 
+use crate::{Queue, Result};
 use std::{
     cell::RefCell,
     env,
@@ -23,7 +24,7 @@ fn start() -> Child {
 }
 
 /// The answers to a block of messages.
-pub fn answer(block: &[u64]) -> Vec<u64> {
+pub fn answer(block: &mut [u64]) -> Vec<u64> {
     BRIDGE.with_borrow_mut(|bridge| {
         send(bridge, block).expect("the bridge reads");
         receive(bridge).expect("the bridge answers")
@@ -50,4 +51,18 @@ fn receive(bridge: &mut Child) -> io::Result<Vec<u64>> {
         .iter()
         .map(|eight| u64::from_le_bytes(*eight))
         .collect())
+}
+
+pub fn solve(file: &[u8], words: &[u64], budget: u32, values: &mut [u64]) -> Result {
+    let mut queue = Queue::default();
+    queue.lend_file(file);
+    queue.lend_words(words);
+    queue.solve((), budget, values);
+    let mut result = Result::default();
+    queue.answer(|(), answer| {
+        let (found, left) = answer.split_at(result.len());
+        result.copy_from_slice(found);
+        values.copy_from_slice(left);
+    });
+    result
 }

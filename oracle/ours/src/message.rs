@@ -11,12 +11,19 @@ pub const CHECK: u64 = 2;
 pub const WORDS: u64 = 3;
 /// A rule, over the lent words: rule, operator, side, s, t and the place.
 pub const RULE: u64 = 4;
+/// Lends a list of values.
+pub const VALUES: u64 = 5;
+/// A step on the lent file, words and values: node, target and the place.
+pub const STEP: u64 = 6;
+/// A search on the lent file and words: the budget, and the values it is lent.
+pub const SOLVE: u64 = 7;
 
-/// The length of an answer.
+/// The length of an answer; that of a search has the values behind it.
 pub fn width(function: u64) -> usize {
     match function {
         BITVEC => 2,
         CHECK | RULE => 3,
+        STEP | SOLVE => 6,
         _ => 0,
     }
 }

@@ -38,6 +38,10 @@ impl<T> Queue<T> {
         self.lend(message::WORDS, &[words]);
     }
 
+    pub fn lend_values(&mut self, values: &[u64]) {
+        self.lend(message::VALUES, &[values]);
+    }
+
     fn lend(&mut self, function: u64, parts: &[&[u64]]) {
         let lent = self.lent.entry(function).or_default();
         lent.clear();
@@ -46,21 +50,32 @@ impl<T> Queue<T> {
     }
 
     pub fn bitvec(&mut self, asker: T, op: u64, a: u64, b: u64) {
-        self.ask(asker, message::BITVEC, &[&[op, a, b]]);
+        self.ask(asker, message::BITVEC, &[&[op, a, b]], 0);
     }
 
     pub fn check(&mut self, asker: T) {
-        self.ask(asker, message::CHECK, &[]);
+        self.ask(asker, message::CHECK, &[], 0);
     }
 
     /// Rule, operator, side, s, t and the place among the words.
     pub fn rule(&mut self, asker: T, asked: [u64; 6]) {
-        self.ask(asker, message::RULE, &[&asked]);
+        self.ask(asker, message::RULE, &[&asked], 0);
     }
 
-    fn ask(&mut self, asker: T, function: u64, parts: &[&[u64]]) {
+    /// Node, target and the place among the words.
+    pub fn step(&mut self, asker: T, asked: [u64; 3]) {
+        self.ask(asker, message::STEP, &[&asked], 0);
+    }
+
+    /// The answer has the values behind it, as the search leaves them.
+    pub fn solve(&mut self, asker: T, budget: u32, values: &[u64]) {
+        let parts = [&[budget.into()], values];
+        self.ask(asker, message::SOLVE, &parts, values.len());
+    }
+
+    fn ask(&mut self, asker: T, function: u64, parts: &[&[u64]], values: usize) {
         push(&mut self.block, function, parts);
-        self.asked.push((asker, message::width(function)));
+        self.asked.push((asker, message::width(function) + values));
     }
 
     pub fn is_full(&self) -> bool {
@@ -69,7 +84,7 @@ impl<T> Queue<T> {
 
     /// Each asker with its answer, in the order of the questions.
     pub fn answer(&mut self, mut each: impl FnMut(T, &[u64])) {
-        let answers = library::answer(&self.block);
+        let answers = library::answer(&mut self.block);
         let mut rest = answers.as_slice();
         for (asker, width) in self.asked.drain(..) {
             let (answer, after) = rest.split_at(width);

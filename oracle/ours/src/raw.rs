@@ -17,4 +17,30 @@ extern "C" {
         out: *mut u64,
         out_len: usize,
     );
+
+    pub fn step_op(
+        file: *const u8,
+        file_len: usize,
+        words: *const u64,
+        words_len: usize,
+        values: *const u64,
+        values_len: usize,
+        node: u32,
+        target: u64,
+        at: usize,
+        out: *mut u64,
+        out_len: usize,
+    );
+
+    pub fn solve_file(
+        file: *const u8,
+        file_len: usize,
+        words: *const u64,
+        words_len: usize,
+        budget: u32,
+        values: *mut u64,
+        values_len: usize,
+        out: *mut u64,
+        out_len: usize,
+    );
 }

@@ -28,7 +28,7 @@ pub enum How {
 }
 
 /// One completed step: at `node` with `target`, the `operand` on `side` is
-/// taken (Not has no side) and is passed `value`.
+/// taken (Not has no side) and is passed `value`; `words` are taken by its end.
 #[derive(Clone, Copy, Debug, PartialEq, Eq)]
 pub struct Choice {
     pub node: usize,
@@ -37,6 +37,7 @@ pub struct Choice {
     pub operand: usize,
     pub value: u64,
     pub how: How,
+    pub words: usize,
 }
 
 /// One completed round: how many steps were completed by its end, the input or
@@ -250,6 +251,7 @@ pub fn step(
             // "A step at Not passes its value to the operand."
             value: unary(Operator::Not, target).expect("Not"),
             how: How::Not,
+            words: *at,
         }),
         Node::Binary(op, left, right) => {
             let side = side(graph, values, left, right, target, words, at)?;
@@ -265,6 +267,7 @@ pub fn step(
                 operand,
                 value,
                 how,
+                words: *at,
             })
         }
     }

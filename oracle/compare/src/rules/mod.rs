@@ -1,13 +1,13 @@
 //! Every rule of document 01, one value at a time: ours and the Rust's against
 //! the plain reading. Counted by the rows of the paper's tables.
 
-mod draws;
-mod ours;
-mod paper;
-mod question;
-mod questions;
-mod rows;
-mod rust;
+pub mod draws;
+pub mod ours;
+pub mod paper;
+pub mod question;
+pub mod questions;
+pub mod rows;
+pub mod rust;
 
 use crate::{
     coverage::Coverage,

@@ -9,10 +9,15 @@ const UNKNOWN_RULES: [u64; 3] = [4, 1 << 32, u64::MAX];
 const UNKNOWN_SIDES: [u64; 3] = [2, 1 << 32, u64::MAX];
 
 pub fn ask(question: Question, waiting: &mut Queue<Question>) {
-    let Question { s, t, at, .. } = question;
-    let (rule, side) = (question.rule as u64, question.side as u64);
     waiting.lend_words(question.words());
-    waiting.rule(question, [rule, question.kind(), side, s, t, at as u64]);
+    waiting.rule(question, numbers(&question));
+}
+
+/// Rule, operator, side, s, t and the place among the words.
+pub fn numbers(question: &Question) -> [u64; 6] {
+    let Question { s, t, at, .. } = *question;
+    let (rule, side) = (question.rule as u64, question.side as u64);
+    [rule, question.kind(), side, s, t, at as u64]
 }
 
 /// Rules, operators and sides that there are not, beside some that there are.

@@ -160,8 +160,7 @@ impl Rows {
 
     /// Counts the question, whose answer must be one that its row can give.
     pub fn count(&mut self, question: &Question, answer: Answer) {
-        let place = ROWS.iter().position(|row| of(row, question));
-        let place = place.expect("every question has its row");
+        let place = place(question);
         let count = &mut self.0[place][question.side as usize];
         match fits(&ROWS[place], question, answer) {
             Some(true) => count.answered += 1,
@@ -186,6 +185,12 @@ impl Rows {
             }
         }
     }
+}
+
+/// The place of a question's row.
+pub fn place(question: &Question) -> usize {
+    let place = ROWS.iter().position(|row| of(row, question));
+    place.expect("every question has its row")
 }
 
 fn of((rule, op, sides, _, case, _): &Row, question: &Question) -> bool {

@@ -1,10 +1,13 @@
-//! Puts a case to both sides, and keeps count.
+//! Puts a case to all sides, and keeps count.
 
 use super::{
-    cells::Cells,
+    odd::Odd,
+    ours::{Depth, Ours},
     panics::Panics,
     paper,
+    questions::Seen,
     roots::Roots,
+    runs::Judge,
     rust,
     sides::Sides,
     trace::{Case, Outcome, Trace},
@@ -14,80 +17,86 @@ use crate::{
     report::{conclude, Report},
 };
 use monster::{End, Run};
+use plain::search;
+use std::rc::Rc;
 
 pub struct Compared {
+    ours: Ours,
     rust: Reports,
     panics: Panics,
-    cells: Cells,
     sides: Sides,
     roots: Roots,
     unfinished: u64,
-    refused: u64,
     left_out: u64,
+}
+
+impl Judge for Compared {
+    fn judge(&mut self, case: &Rc<Case>, depth: Depth) -> Option<Outcome> {
+        let Ok(paper) = paper::run(case) else {
+            self.judge_odd(Odd::new(case));
+            return None;
+        };
+        let rust = rust::run(case);
+        match &rust {
+            Some(rust) => self.compare_rust(case, rust, &paper),
+            None => self.left_out += 1,
+        }
+        let seen = Seen {
+            case,
+            paper: &paper,
+            rust: rust.as_ref(),
+        };
+        self.ours.ask(&seen, depth);
+        Some(paper::outcome(&paper))
+    }
+
+    fn judge_odd(&mut self, odd: Odd) {
+        self.ours.ask_odd(odd);
+    }
 }
 
 impl Compared {
     pub fn new() -> Compared {
         Compared {
-            rust: Reports::new(["choices", "values", "results"]),
+            ours: Ours::new(),
+            rust: Reports::new(["Rust's choices", "Rust's values", "Rust's results"]),
             panics: Panics::new(),
-            cells: Cells::new(),
             sides: Sides::new(),
             roots: Roots::new(),
             unfinished: 0,
-            refused: 0,
             left_out: 0,
         }
     }
 
-    /// The outcome by the paper, none if it refuses the case.
-    pub fn compare(&mut self, case: &Case) -> Option<Outcome> {
-        let Ok(paper) = paper::run(case) else {
-            self.refused += 1;
-            return None;
-        };
-        match rust::run(case) {
-            Some(rust) => self.compare_rust(case, &rust, &paper),
-            None => self.left_out += 1,
-        }
-        Some(paper::outcome(&paper))
-    }
-
-    fn compare_rust(&mut self, case: &Case, rust: &Run, paper: &plain::search::Run) {
+    fn compare_rust(&mut self, case: &Case, rust: &Run, paper: &search::Run) {
         self.rust
             .compare(case, rust::trace(rust), paper::trace(paper));
         if let End::Panicked(place) = &rust.end {
             self.panics.compare(case, rust, place, paper);
         }
         self.unfinished += u64::from(rust.end == End::Dry && rust.unfinished > 0);
-        self.cells.count(case.plan, rust);
-        self.sides.count(case.plan, rust);
-        self.roots.count(case.plan, rust);
+        self.sides.count(&case.plan, rust);
+        self.roots.count(&case.plan, rust);
     }
 
     /// Prints all figures; whether nothing differs and nothing is missing.
     pub fn conclude(self, graphs: u64) -> bool {
         let mut coverage = Coverage::default();
-        self.cells.print(&mut coverage);
+        let ours = self.ours.conclude(&mut coverage);
         self.sides.print(&mut coverage);
         self.roots.print(&mut coverage);
-        self.panics.print(&mut coverage);
+        self.panics.places.print(&mut coverage);
         let mut runs = |name: &str, count: u64| coverage.line(name, &[(count, "runs")], true);
         runs("dry within a value that took words", self.unfinished);
-        runs("refused by the paper", self.refused);
         runs("left out, the Rust's propagation explodes", self.left_out);
         println!("{graphs} graphs");
-        let Reports {
-            choices,
-            states,
-            outcomes,
-        } = self.rust;
-        let reports = [choices, states, outcomes, self.panics.report];
-        conclude("search", &reports) & coverage.conclude()
+        let rust = [self.rust.choices, self.rust.states, self.rust.outcomes];
+        let reports = ours.into_iter().chain(rust).chain([self.panics.report]);
+        conclude("search", &reports.collect::<Vec<_>>()) & coverage.conclude()
     }
 }
 
-/// One side against the paper.
+/// The Rust against the paper.
 struct Reports {
     choices: Report,
     states: Report,

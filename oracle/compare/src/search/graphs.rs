@@ -9,6 +9,7 @@ use monster::{
     BVOperator::{self, *},
     Node,
 };
+use std::rc::Rc;
 
 const BINARY: [BVOperator; 8] = [Add, Sub, Mul, Divu, Sltu, Remu, Equals, BitwiseAnd];
 
@@ -211,14 +212,11 @@ impl Builder<'_> {
 
     /// A constant that the node is for some inputs.
     fn value_of(&mut self, top: usize) -> usize {
-        let plan = Plan {
-            nodes: self.nodes.clone(),
-            root: top,
-        };
-        let words: Vec<u64> = self.nodes.iter().map(|_| self.random.number()).collect();
+        let nodes = self.nodes.clone();
+        let words = nodes.iter().map(|_| self.random.number()).collect();
         let start = Case {
-            plan: &plan,
-            words: &words,
+            plan: Rc::new(Plan { nodes, root: top }),
+            words,
             budget: 0,
         };
         match paper::run(&start) {

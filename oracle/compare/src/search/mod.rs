@@ -1,17 +1,23 @@
-//! Whole runs on random graphs: the Rust against the plain reading of document
-//! 01, choice by choice and round by round.
+//! Whole runs on random graphs: ours and the Rust's against the plain reading of
+//! document 01, step by step and round by round.
 
-mod cells;
-mod compared;
-mod file;
-mod graphs;
-mod panics;
-mod paper;
-mod roots;
-mod runs;
-mod rust;
-mod sides;
-mod trace;
+pub mod answers;
+pub mod cells;
+pub mod compared;
+pub mod file;
+pub mod graphs;
+pub mod log;
+pub mod odd;
+pub mod ours;
+pub mod panics;
+pub mod paper;
+pub mod questions;
+pub mod refusals;
+pub mod roots;
+pub mod runs;
+pub mod rust;
+pub mod sides;
+pub mod trace;
 
 use crate::numbers::Random;
 use compared::Compared;
@@ -29,7 +35,7 @@ pub fn compare() -> bool {
     let mut compared = Compared::new();
     for _ in 0..graphs {
         let plan = graphs::plan(&mut random);
-        runs::ask(&plan, &mut random, &mut compared);
+        runs::ask(plan, &mut random, &mut compared);
     }
     compared.conclude(graphs)
 }

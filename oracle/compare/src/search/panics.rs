@@ -2,22 +2,42 @@
 
 use super::trace::Case;
 use crate::{coverage::Coverage, report::Report};
-use monster::{BVOperator::*, Known, Node, Place, Run};
+use monster::{BVOperator::*, End, Known, Node, Place, Run};
 use plain::{
     rules::Side,
     search::{self, Choice, Outcome},
 };
 
+/// How often the Rust panicked at each of the known places.
+#[derive(Default)]
+pub struct Places([u64; Known::ALL.len()]);
+
+impl Places {
+    pub fn count(&mut self, end: &End) {
+        if let End::Panicked(place) = end {
+            let known = place.known().into_iter();
+            known.for_each(|known| self.0[known as usize] += 1);
+        }
+    }
+
+    pub fn print(&self, coverage: &mut Coverage) {
+        for known in Known::ALL {
+            let count = (self.0[known as usize], "times");
+            coverage.line(&format!("panics, {}", known.place()), &[count], true);
+        }
+    }
+}
+
 pub struct Panics {
     pub report: Report,
-    places: [u64; Known::ALL.len()],
+    pub places: Places,
 }
 
 impl Panics {
     pub fn new() -> Panics {
         Panics {
-            report: Report::new("panics"),
-            places: [0; Known::ALL.len()],
+            report: Report::new("Rust's panics"),
+            places: Places::default(),
         }
     }
 
@@ -27,16 +47,7 @@ impl Panics {
         let shown = known.is_some_and(|known| shows(known, case, rust, paper));
         let expected = if shown { &place.0 } else { "no panic" };
         self.report.compare(case, place.0.as_str(), expected);
-        if let Some(known) = known {
-            self.places[known as usize] += 1;
-        }
-    }
-
-    pub fn print(&self, coverage: &mut Coverage) {
-        for known in Known::ALL {
-            let count = (self.places[known as usize], "times");
-            coverage.line(&format!("panics, {}", known.place()), &[count], true);
-        }
+        self.places.count(&rust.end);
     }
 }
 

@@ -1,9 +1,6 @@
 //! The plain reading of document 01.
 
-use super::{
-    file,
-    trace::{Case, Choice, Ending, How, Outcome, Trace},
-};
+use super::trace::{Case, Choice, Ending, How, Outcome, Trace};
 use monster::OperandSide;
 use plain::{
     rules::Side,
@@ -11,11 +8,9 @@ use plain::{
     Refusal,
 };
 
-/// The run from the file's bytes; the note has no effect.
 pub fn run(case: &Case) -> Result<Run, Refusal> {
-    let note = &[0xa5; 40][..case.words.len() % 40];
-    let file = file::encode(case.plan, note);
-    search::solve(&file, case.words, case.budget, case.plan.nodes.len())
+    let room = case.plan.nodes.len();
+    search::solve(&case.file(), &case.words, case.budget, room)
 }
 
 pub fn trace(run: &Run) -> Trace {
@@ -52,6 +47,7 @@ fn choice(choice: &search::Choice) -> Choice {
             search::How::Inverse => How::Inverse,
             search::How::Consistent => How::Consistent,
         },
+        words: choice.words,
     }
 }
 

@@ -1,36 +1,61 @@
 //! The runs on one graph: word lists of corners, cut short, and budgets of all sizes.
 
 use super::{
-    compared::Compared,
+    odd::Odd,
+    ours::Depth,
     trace::{Case, Outcome, Plan},
 };
 use crate::numbers::Random;
 use monster::Node;
+use std::rc::Rc;
 
-/// A long list first; then cut where a run with it stopped, or before.
-pub fn ask(plan: &Plan, random: &mut Random, compared: &mut Compared) {
+/// Whom a case is put to.
+pub trait Judge {
+    /// The outcome by the paper, none if it refuses the case.
+    fn judge(&mut self, case: &Rc<Case>, depth: Depth) -> Option<Outcome>;
+
+    fn judge_odd(&mut self, odd: Odd);
+}
+
+/// A long list first; then cut where a run with it stopped, or before; then
+/// another budget, and something that is refused.
+pub fn ask(plan: Plan, random: &mut Random, judge: &mut impl Judge) {
     let start = plan
         .nodes
         .iter()
         .filter(|node| !matches!(node, Node::Constant(_)))
         .count();
     let budget = budget(random);
-    let words = words(start, budget, random);
-    let whole = Case {
-        plan,
-        words: &words,
+    let whole = Rc::new(Case {
+        plan: Rc::new(plan),
+        words: words(start, budget, random),
         budget,
-    };
-    let Some(outcome) = compared.compare(&whole) else {
-        return;
-    };
-    for length in lengths(start, &outcome, random) {
-        let words = &words[..length];
-        compared.compare(&Case { words, ..whole });
+    });
+    let outcome = judge.judge(&whole, Depth::Whole);
+    if random.below(4) == 0 {
+        judge.judge_odd(Odd::changed(&whole, random));
+    }
+    if let Some(outcome) = outcome {
+        ask_parts(&whole, start, &outcome, random, judge);
+    }
+}
+
+fn ask_parts(
+    whole: &Case,
+    start: usize,
+    outcome: &Outcome,
+    random: &mut Random,
+    judge: &mut impl Judge,
+) {
+    for length in lengths(start, outcome, random) {
+        let mut part = whole.clone();
+        part.words.truncate(length);
+        judge.judge(&Rc::new(part), Depth::End);
     }
     if outcome.steps > 0 {
-        let budget = random.below(outcome.steps) as u32;
-        compared.compare(&Case { budget, ..whole });
+        let mut part = whole.clone();
+        part.budget = random.below(outcome.steps) as u32;
+        judge.judge(&Rc::new(part), Depth::End);
     }
 }
 
@@ -59,12 +84,12 @@ fn words(start: usize, budget: u32, random: &mut Random) -> Vec<u64> {
         .collect()
 }
 
-/// Any words, small ones, corners, those near the choosing word's bound, one of
+/// Any words, M and small ones, corners, those near the choosing word's bound, one of
 /// two (which brings redraws), or a mixture.
 fn word(style: u64, two: [u64; 2], random: &mut Random) -> u64 {
     match style {
         0 => random.word(),
-        1 => random.below(3),
+        1 => random.below(4).wrapping_sub(1),
         2 => random.number(),
         3 => choosing(random),
         4 => two[random.below(2) as usize],

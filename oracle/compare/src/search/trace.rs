@@ -1,7 +1,9 @@
 //! What is asked of a search, and what document 01 lets be seen of it.
 
+use super::file;
 use crate::report::Asked;
 use monster::{Node, OperandSide};
+use std::rc::Rc;
 
 #[derive(Clone, Debug)]
 pub struct Plan {
@@ -9,14 +11,22 @@ pub struct Plan {
     pub root: usize,
 }
 
-#[derive(Clone, Copy, Debug)]
-pub struct Case<'a> {
-    pub plan: &'a Plan,
-    pub words: &'a [u64],
+#[derive(Clone, Debug)]
+pub struct Case {
+    pub plan: Rc<Plan>,
+    pub words: Vec<u64>,
     pub budget: u32,
 }
 
-impl Asked for Case<'_> {
+impl Case {
+    /// The graph file, behind notes of many lengths: a note has no effect.
+    pub fn file(&self) -> Vec<u8> {
+        let note = &[0xa5; 40][..self.words.len() % 40];
+        file::encode(&self.plan, note)
+    }
+}
+
+impl Asked for Case {
     fn size(&self) -> Vec<u64> {
         let nodes = self.plan.nodes.len() as u64;
         vec![nodes, self.words.len() as u64, self.budget.into()]
@@ -37,13 +47,14 @@ pub enum How {
     Consistent,
 }
 
-/// One completed step; Not has no side.
+/// One completed step; Not has no side. `words` are taken by its end.
 #[derive(Clone, Copy, Debug, PartialEq, Eq)]
 pub struct Choice {
     pub node: usize,
     pub side: Option<OperandSide>,
     pub value: u64,
     pub how: How,
+    pub words: usize,
 }
 
 #[derive(Clone, Copy, Debug, PartialEq, Eq)]
