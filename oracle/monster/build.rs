@@ -1,7 +1,8 @@
-//! Writes the patched monster.rs, and one line that makes a module of it.
+//! Writes monster.rs, patched in two ways, and the lines that make modules of it.
 
 mod patches;
 
+use patches::{Patch, TIMED, WATCHED};
 use std::{env, fs, path::Path};
 
 const ORIGINAL: &str = "../original/monster.rs";
@@ -12,20 +13,35 @@ fn main() {
     println!("cargo:rerun-if-changed=patches.rs");
 
     let original = fs::read_to_string(ORIGINAL).expect("the original is part of the repository");
-    let out = env::var("OUT_DIR").expect("cargo sets OUT_DIR");
-    let patched = Path::new(&out).join("monster.rs");
-    fs::write(&patched, patch(&original)).expect("OUT_DIR can be written");
+    let modules = [
+        module("monster", &patch(&original, &WATCHED)),
+        module("timed", &patch(&original, &TIMED)),
+    ];
+    write("modules.rs", &modules.concat());
+}
 
-    // include! would refuse the attributes at the top of the file, a module takes them.
-    let module = format!("#[path = {patched:?}]\nmod monster;\n");
-    fs::write(Path::new(&out).join("module.rs"), module).expect("OUT_DIR can be written");
+/// Writes a module's text under the original's name, which a panic names, and
+/// answers the lines that make a module of it. include! would refuse the attributes
+/// at the top of the file, a module takes them.
+fn module(name: &str, text: &str) -> String {
+    let path = write(&format!("{name}/monster.rs"), text);
+    format!("#[path = {path:?}]\nmod {name};\n")
+}
+
+fn write(name: &str, text: &str) -> String {
+    let out = env::var("OUT_DIR").expect("cargo sets OUT_DIR");
+    let path = Path::new(&out).join(name);
+    let folder = path.parent().expect("a file is in a folder");
+    fs::create_dir_all(folder).expect("OUT_DIR can be written");
+    fs::write(&path, text).expect("OUT_DIR can be written");
+    path.display().to_string()
 }
 
 /// Every patch matches once in the original and keeps the number of lines, so
 /// that a panic names the original's line.
-fn patch(original: &str) -> String {
+fn patch(original: &str, patches: &[Patch]) -> String {
     let mut text = original.to_owned();
-    for (old, new) in patches::PATCHES {
+    for (old, new) in patches {
         assert_eq!(original.matches(old).count(), 1, "matches once: {old}");
         assert_eq!(
             text.matches(old).count(),

@@ -1,6 +1,15 @@
 //! What is changed in monster.rs: a piece of one line, and what stands there instead.
 
-pub const PATCHES: [(&str, &str); 15] = [
+pub type Patch = (&'static str, &'static str);
+
+/// For the build that is timed: the clock alone, and nothing that watches.
+pub const TIMED: [Patch; 1] = [(
+    "use std::time::{Duration, Instant};",
+    "use crate::steps::{Duration, Instant};",
+)];
+
+/// For the build that is watched.
+pub const WATCHED: [Patch; 15] = [
     // The clock becomes the step budget: `elapsed() > timeout` stays as it is,
     // and counts steps.
     (

@@ -83,9 +83,6 @@ module _ (f s : List ℕ) (m : Formula) (w p : Words) (k : ℕ) (vs : Values) (n
       lengths : length (take n vs) ≡ length (replicate {A = ℕ} (upTo 4000 (m .count)) 0)
       lengths = length-take-le n vs (omega arith) ∙ hn ∙ sym (length-replicate (upTo 4000 (m .count)) 0)
 
-pub part-count : (l : List ℕ) (n k : ℕ) → n ≤ k → k ≡ length l → n ≡ length (take n l)
-part-count l n k h e = sym (length-take-le n l (omega arith))
-
 -- main
 pub page-fits : {t : Text} {o p : Text} {r : Place} → 216085 ≡ length o → WroteUpTo 216085 t 0 o p r → r ≤ length p
 page-fits e w = omega (arith, w .wrote .place, w .short, wrote-kept-short w)

@@ -7,13 +7,15 @@ mod panics;
 mod release;
 mod rules;
 mod run;
+mod steps;
 mod symbols;
+mod time;
 mod watch;
 
 #[path = "../../original/bitvec.rs"]
 mod bitvec;
 
-include!(concat!(env!("OUT_DIR"), "/module.rs"));
+include!(concat!(env!("OUT_DIR"), "/modules.rs"));
 
 pub use bitvec::BitVector;
 pub use graph::{Graph, Node};
@@ -24,4 +26,5 @@ pub use run::{run, End, Run};
 pub use symbols::{
     Assignment, BVOperator, Formula, OperandSide, Solver, SolverError, Symbol, SymbolId,
 };
+pub use time::{time, Timed};
 pub use watch::{Choice, How};

@@ -1,5 +1,6 @@
-use Rattle.retrysolve.proofs.Answers.{solved-it, part-count}
+use Rattle.retrysolve.proofs.Answers.{solved-it}
 use Rattle.intake.proofs.Words.{words-count}
+use Rattle.intake.proofs.Parts.{part-count}
 use borrow.Author.Needs.{needs}
 use Rattle.retrysolve.proofs.solve_it.Statement.{statement}
 use Rattle.retrysolve.proofs.solve_it.Tie as tie

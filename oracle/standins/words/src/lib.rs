@@ -50,6 +50,11 @@ pub fn finished() -> usize {
     with(|lent| lent.finished)
 }
 
+/// How many words are taken, also by an unfinished value.
+pub fn taken() -> usize {
+    with(|lent| lent.at)
+}
+
 /// How many words an unfinished value took.
 pub fn unfinished() -> usize {
     with(|lent| lent.at - lent.finished)

@@ -1,0 +1,39 @@
+//! Times our search and the original Rust's on the same graphs with the same words.
+
+mod families;
+mod policy;
+mod runs;
+mod table;
+
+use families::{Family, FAMILIES};
+use policy::Policy;
+use table::Row;
+
+const STEPS: u64 = 100_000;
+
+/// Where no time is taken.
+const FEW_STEPS: u64 = 1_000;
+
+fn main() {
+    monster::refuse_other_builds();
+    let steps = if ours::LINKED { STEPS } else { FEW_STEPS };
+    table::begin();
+    for family in &FAMILIES {
+        let rows = family.sizes.iter().map(|size| row(family, *size, steps));
+        table::print(&rows.collect::<Vec<Row>>());
+    }
+    table::end();
+}
+
+/// A short run first, so that neither side is the first to touch the graph.
+fn row(family: &Family, size: usize, steps: u64) -> Row {
+    let mut policy = Policy::default();
+    (family.build)(&mut policy, size);
+    runs::run(&policy, family.solvable, steps / 100);
+    let runs = runs::run(&policy, family.solvable, steps);
+    Row {
+        name: format!("{} {size}", family.name),
+        nodes: policy.nodes.len(),
+        runs,
+    }
+}
