@@ -6,3 +6,4 @@ pub mod Longer
 pub mod Cases
 pub mod Needed
 pub mod Programs
+pub mod Notes
