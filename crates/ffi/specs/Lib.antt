@@ -1,4 +1,3 @@
-pub mod Bitvec
 pub mod Out
 pub mod Files
 pub mod Rules

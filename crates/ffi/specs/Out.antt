@@ -2,8 +2,8 @@
 use Prim.Native.Nat.{ℕ}
 use mathlib.Core.List.{List}
 use lib.ListN.{set}
-use Rattle.ffi.specs.declared.bits.Found.{Found}
-use Rattle.ffi.specs.declared.bits.Found.the-variants.{Value, Nothing}
+use Rattle.numbered.specs.declared.Found.{Found}
+use Rattle.numbered.specs.declared.Found.the-variants.{Value, Nothing}
 
 -- the answer's number at 0 and its value at 1; entries that the buffer lacks are not written
 abbrev pub written : Found → List ℕ → List ℕ

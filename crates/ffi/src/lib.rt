@@ -1,16 +1,15 @@
 // What Rust calls, for the comparison and the benchmark: few adapters, an operation's number and its arguments in, the answer's
 // number and fields into a lent buffer.
 ghost use mathlib.Core.Path.{_≡_};
-ghost use Rattle.ffi.specs.Bitvec.{bitvecOp};
+ghost use Rattle.numbered.specs.Bitvec.{bitvecOp};
 ghost use Rattle.ffi.specs.Out.{written};
 
-pub mod bits;
 pub mod files;
 pub mod out;
 pub mod searching;
 pub mod single;
 
-use bits::Found;
+use numbered::Found;
 use out::put;
 
 fn write(found: Found, out: &mut [u64])
@@ -28,10 +27,10 @@ fn write(found: Found, out: &mut [u64])
     }
 }
 
-// An operation of BitVector by its number (specs/Bitvec.antt): 1 and its value, or 0 and 0.
+// An operation of BitVector by its number (numbered/specs/Bitvec.antt): 1 and its value, or 0 and 0.
 #[no_mangle]
 pub extern "C" fn bitvec_op(op: u64, a: u64, b: u64, out: &mut [u64])
     ensures { λ _. ⌜ now (out .exit) ≡ written (bitvecOp op a b) (now (out .entry)) ⌝ }
 {
-    write(bits::operation(op, a, b), out);
+    write(numbered::operation(op, a, b), out);
 }

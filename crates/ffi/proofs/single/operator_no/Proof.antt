@@ -1,6 +1,6 @@
 -- `ffi::single::operator_no` meets its contract. Assumes nothing.
 use borrow.Author.Needs.{needs}
-use Rattle.ffi.proofs.Choosing.{choosing}
+use Rattle.numbered.proofs.Choosing.{choosing}
 use Rattle.ffi.specs.Rules.{operatorNo}
 use Rattle.ffi.proofs.single.operator_no.Statement.{statement}
 use Rattle.ffi.proofs.single.operator_no.Tie as tie

@@ -1,6 +1,6 @@
 -- `ffi::single::side_no` meets its contract. Assumes nothing.
 use borrow.Author.Needs.{needs}
-use Rattle.ffi.proofs.Choosing.{choosing}
+use Rattle.numbered.proofs.Choosing.{choosing}
 use Rattle.ffi.specs.Rules.{sideNo}
 use Rattle.ffi.proofs.single.side_no.Statement.{statement}
 use Rattle.ffi.proofs.single.side_no.Tie as tie

@@ -1,8 +1,8 @@
--- `ffi::bits::word` meets its contract. Assumes nothing.
-use Rattle.ffi.proofs.Choosing.{choosing}
+-- `numbered::word` meets its contract. Assumes nothing.
+use Rattle.numbered.proofs.Choosing.{choosing}
 use borrow.Author.Needs.{needs}
-use Rattle.ffi.proofs.bits.word.Statement.{statement}
-use Rattle.ffi.proofs.bits.word.Tie as tie
+use Rattle.numbered.proofs.word.Statement.{statement}
+use Rattle.numbered.proofs.word.Tie as tie
 
 pub word-spec : {M : Type 1} → statement M
 word-spec =

@@ -1,8 +1,8 @@
--- `ffi::bits::operation` meets its contract. Assumes nothing.
-use Rattle.ffi.specs.Bitvec.{bitvecOp}
+-- `numbered::operation` meets its contract. Assumes nothing.
+use Rattle.numbered.specs.Bitvec.{bitvecOp}
 use borrow.Author.Needs.{needs}
-use Rattle.ffi.proofs.bits.operation.Statement.{statement}
-use Rattle.ffi.proofs.bits.operation.Tie as tie
+use Rattle.numbered.proofs.operation.Statement.{statement}
+use Rattle.numbered.proofs.operation.Tie as tie
 
 returns : tie.Need-returns
 unfolding bitvecOp

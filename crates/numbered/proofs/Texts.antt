@@ -7,8 +7,8 @@ use lib.ListN.{length, getD, List·getD-append}
 use borrow.Author.Tests.{lt-ltb, le-ltb}
 use Rattle.bitvec.specs.Debug.{debugText, held}
 use Rattle.bitvec.proofs.Text.{text-short}
-use Rattle.ffi.specs.declared.bits.Found.the-variants.{Value, Nothing}
-use Rattle.ffi.specs.Bitvec.{textByte}
+use Rattle.numbered.specs.declared.Found.the-variants.{Value, Nothing}
+use Rattle.numbered.specs.Bitvec.{textByte}
 
 pub byte-inside : (a i len : ℕ) → a < 2 ^ 64 → len ≡ length (debugText a) → i < len → i < 66
 byte-inside a i len h e l = let s = text-short a h in omega arith

@@ -8,7 +8,7 @@ use lib.Dec.{eqb}
 use borrow.Author.Tests.{eq-eqb, ne-eqb}
 use Rattle.laws.specs.Rows.{Row, row, first}
 use Rattle.laws.proofs.Rows.{first-next, first-none}
-use Rattle.ffi.specs.declared.bits.Found.the-variants.{Value}
+use Rattle.numbered.specs.declared.Found.the-variants.{Value}
 
 pub taken : {X : Type 0} (op k : ℕ) (x y : X) (rest : List (Row X)) (d : X) → op ≡ k → y ≡ x → y ≡ first (row (eqb op k) x ∷ rest) d
 unfolding first

@@ -1,8 +1,8 @@
--- `ffi::bits::test` meets its contract. Assumes nothing.
-use Rattle.ffi.proofs.Choosing.{choosing}
+-- `numbered::test` meets its contract. Assumes nothing.
+use Rattle.numbered.proofs.Choosing.{choosing}
 use borrow.Author.Needs.{needs}
-use Rattle.ffi.proofs.bits.test.Statement.{statement}
-use Rattle.ffi.proofs.bits.test.Tie as tie
+use Rattle.numbered.proofs.test.Statement.{statement}
+use Rattle.numbered.proofs.test.Tie as tie
 
 pub test-spec : {M : Type 1} → statement M
 test-spec =

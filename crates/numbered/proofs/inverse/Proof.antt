@@ -1,8 +1,8 @@
--- `ffi::bits::inverse` meets its contract. Assumes nothing.
-use Rattle.ffi.proofs.Writing.{inverse-value, inverse-nothing}
+-- `numbered::inverse` meets its contract. Assumes nothing.
+use Rattle.numbered.proofs.Inverses.{inverse-value, inverse-nothing}
 use borrow.Author.Needs.{needs}
-use Rattle.ffi.proofs.bits.inverse.Statement.{statement}
-use Rattle.ffi.proofs.bits.inverse.Tie as tie
+use Rattle.numbered.proofs.inverse.Statement.{statement}
+use Rattle.numbered.proofs.inverse.Tie as tie
 
 pub inverse-spec : {M : Type 1} → statement M
 inverse-spec =

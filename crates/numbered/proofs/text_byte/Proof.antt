@@ -1,8 +1,8 @@
--- `ffi::bits::text_byte` meets its contract. Assumes nothing.
-use Rattle.ffi.proofs.Texts.{byte-inside, byte-found, byte-none}
+-- `numbered::text_byte` meets its contract. Assumes nothing.
+use Rattle.numbered.proofs.Texts.{byte-inside, byte-found, byte-none}
 use borrow.Author.Needs.{needs}
-use Rattle.ffi.proofs.bits.text_byte.Statement.{statement}
-use Rattle.ffi.proofs.bits.text_byte.Tie as tie
+use Rattle.numbered.proofs.text_byte.Statement.{statement}
+use Rattle.numbered.proofs.text_byte.Tie as tie
 
 pub text-byte-spec : {M : Type 1} → statement M
 text-byte-spec =

@@ -1,11 +1,11 @@
-// The operations of BitVector by their numbers, in three groups that are tried in turn.
+// The operations of BitVector by their numbers, as the comparison asks for them: three groups that are tried in turn.
 use bitvec::BitVector;
 use bitvec::inverse::Inverse;
 ghost use mathlib.Core.Path.{_≡_};
 ghost use lib.ListN.{length};
 ghost use Rattle.laws.specs.Rows.{first};
 ghost use Rattle.bitvec.specs.Debug.{debugText};
-ghost use Rattle.ffi.specs.Bitvec.{bitvecOp, methodRows, wordRows, testRows, inverseFound, textByte};
+ghost use Rattle.numbered.specs.Bitvec.{bitvecOp, methodRows, wordRows, testRows, inverseFound, textByte};
 
 pub enum Found {
     Value(u64),

@@ -9,8 +9,8 @@ use Rattle.laws.specs.Rows.{Row, row, first}
 use Rattle.bitvec.specs.Word.{M, bvadd, bvneg, bvsub, bvmul, bvudiv, bvurem, bvult, sltu, equals, isZero, bvand, bvor, bvxor, bvnot, bvshl, bvlshr, ctz, addo, mulo}
 use Rattle.bitvec.specs.Inverse.{inverseOf}
 use Rattle.bitvec.specs.Debug.{debugText}
-use Rattle.ffi.specs.declared.bits.Found.{Found}
-use Rattle.ffi.specs.declared.bits.Found.the-variants.{Value, Nothing}
+use Rattle.numbered.specs.declared.Found.{Found}
+use Rattle.numbered.specs.declared.Found.the-variants.{Value, Nothing}
 
 unfoldable pub inverseFound : ℕ → Found
 inverseFound a = pick (eqb (a % 2) 1) (Value (inverseOf a)) Nothing

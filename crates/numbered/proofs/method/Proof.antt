@@ -1,8 +1,8 @@
--- `ffi::bits::method` meets its contract. Assumes nothing.
-use Rattle.ffi.proofs.Choosing.{choosing}
+-- `numbered::method` meets its contract. Assumes nothing.
+use Rattle.numbered.proofs.Choosing.{choosing}
 use borrow.Author.Needs.{needs}
-use Rattle.ffi.proofs.bits.method.Statement.{statement}
-use Rattle.ffi.proofs.bits.method.Tie as tie
+use Rattle.numbered.proofs.method.Statement.{statement}
+use Rattle.numbered.proofs.method.Tie as tie
 
 pub method-spec : {M : Type 1} → statement M
 method-spec =

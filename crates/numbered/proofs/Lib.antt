@@ -1,0 +1,3 @@
+pub mod Choosing
+pub mod Inverses
+pub mod Texts
