@@ -11,26 +11,23 @@ use table::Row;
 
 const STEPS: u64 = 100_000;
 
-/// Where no time is taken.
-const FEW_STEPS: u64 = 1_000;
-
 fn main() {
     monster::refuse_other_builds();
-    let steps = if ours::LINKED { STEPS } else { FEW_STEPS };
+    assert!(ours::LINKED, "the time of an emulated search says nothing about it");
     table::begin();
     for family in &FAMILIES {
-        let rows = family.sizes.iter().map(|size| row(family, *size, steps));
+        let rows = family.sizes.iter().map(|size| row(family, *size));
         table::print(&rows.collect::<Vec<Row>>());
     }
     table::end();
 }
 
 /// A short run first, so that neither side is the first to touch the graph.
-fn row(family: &Family, size: usize, steps: u64) -> Row {
+fn row(family: &Family, size: usize) -> Row {
     let mut policy = Policy::default();
     (family.build)(&mut policy, size);
-    runs::run(&policy, family.solvable, steps / 100);
-    let runs = runs::run(&policy, family.solvable, steps);
+    runs::run(&policy, family.solvable, STEPS / 100);
+    let runs = runs::run(&policy, family.solvable, STEPS);
     Row {
         name: format!("{} {size}", family.name),
         nodes: policy.nodes.len(),

@@ -9,13 +9,8 @@ pub struct Row {
     pub runs: Runs,
 }
 
-/// The time of an emulated search says nothing about it.
-const NO_TIMES: &str = "The static library is not for this processor: an emulator runs it, \
-                        and no times are printed. Both searches did the same.";
-
 pub fn begin() {
     let times = "    ours, steps/s  theirs, steps/s     ratio   ours grows  theirs grows";
-    let times = if ours::LINKED { times } else { "" };
     println!(
         "{:34}{:>7}{:>8}{:>9}{times}",
         "graph", "nodes", "runs", "steps"
@@ -27,10 +22,7 @@ pub fn print(rows: &[Row]) {
     for row in rows {
         let Row { name, nodes, runs } = row;
         print!("{name:34}{nodes:7}{:8}{:9}", runs.runs, runs.steps);
-        if ours::LINKED {
-            print_times(&rows[0].runs, runs);
-        }
-        println!();
+        print_times(&rows[0].runs, runs);
     }
 }
 
@@ -39,7 +31,7 @@ fn print_times(smallest: &Runs, runs: &Runs) {
     let [ours_first, theirs_first] = step_times(smallest);
     let (second, ratio) = (1.0, theirs / ours);
     print!("{:17.0}{:17.0}{ratio:10.3}", second / ours, second / theirs);
-    print!("{:13.2}{:14.2}", ours / ours_first, theirs / theirs_first);
+    println!("{:13.2}{:14.2}", ours / ours_first, theirs / theirs_first);
 }
 
 /// Seconds a step: ours, theirs.
@@ -50,10 +42,6 @@ fn step_times(runs: &Runs) -> [f64; 2] {
 
 pub fn end() {
     println!();
-    if ours::LINKED {
-        println!("ratio: our steps a second over theirs; above 1 we are faster");
-        println!("grows: the time of a step, as a multiple of the family's first graph");
-    } else {
-        println!("{NO_TIMES}");
-    }
+    println!("ratio: our steps a second over theirs; above 1 we are faster");
+    println!("grows: the time of a step, as a multiple of the family's first graph");
 }
