@@ -5,7 +5,7 @@ use Rattle.laws.specs.Rows.{first}
 use Rattle.words.specs.Words.{drawAt, rangeAt, coinAt, choosingAt, twoFrom, twoAt, untilNot, notAt}
 use Rattle.formula.specs.File.{le32, le64, zeros, trailerOf, formulaOf, recordAt}
 use Rattle.formula.specs.Graph.{kindNo, graphOf}
-use Rattle.formula.specs.Refusals.{headRows, rowsOf, recordRows, rootRows, bodyRows, checks, verdict}
+use Rattle.checks.specs.Refusals.{headRows, rowsOf, recordRows, rootRows, bodyRows, checks, verdict}
 use Rattle.search.specs.Machine.{spent, round, reached, stepped, turnOf, runFrom, fromRoot, searchOf}
 use Rattle.search.specs.Round.{roundsFrom, rootRounds, roundsOf}
 use Rattle.reach.specs.Table.{tableSays}

@@ -5,7 +5,7 @@ use lib.ListN.{drop}
 use Rattle.words.specs.Words.{Words}
 use Rattle.symbols.specs.Graph.{Graph}
 use Rattle.formula.specs.File.{File}
-use Rattle.formula.specs.Refusals.{accepted, verdict}
+use Rattle.checks.specs.Refusals.{accepted, verdict}
 use Rattle.formula.specs.declared.Formula.{Formula}
 use Rattle.filelaws.proofs.Notes.{same-graph}
 use Rattle.search.specs.Machine.{Values}

@@ -16,9 +16,9 @@ use Rattle.symbols.specs.declared.Refusal.{Refusal}
 use Rattle.symbols.specs.declared.Refusal.the-variants as refusal
 use Rattle.formula.specs.File.{File, formulaOf, recordAt}
 use Rattle.formula.specs.Graph.{nodeOf}
-use Rattle.formula.specs.Refusals as file
-use Rattle.formula.specs.Refusals.{badSize, badTrailer, badSpan, badRecord, disordered, fixed, headRows, checks, verdict}
-use Rattle.formula.specs.declared.checks.Finding.the-variants.{Clear, Refuse}
+use Rattle.checks.specs.Refusals as file
+use Rattle.checks.specs.Refusals.{badSize, badTrailer, badSpan, badRecord, disordered, fixed, headRows, checks, verdict}
+use Rattle.checks.specs.declared.Finding.the-variants.{Clear, Refuse}
 use Rattle.filelaws.specs.Fine.{Until}
 use Rattle.filelaws.proofs.Exactly.{refused-exactly}
 use Rattle.filelaws.proofs.Places.{placeOf, given-place}

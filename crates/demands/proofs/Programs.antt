@@ -11,7 +11,7 @@ use Rattle.bitvec.specs.Inverse.{inverseOf}
 use Rattle.words.specs.Words.{Words, drawAt, rangeAt, coinAt, choosingAt, twoFrom, twoAt, untilNot, notAt}
 use Rattle.formula.specs.File.{File, le32, le64, zeros, trailerOf, formulaOf, recordAt}
 use Rattle.formula.specs.Graph.{kindNo, graphOf}
-use Rattle.formula.specs.Refusals.{headRows, rowsOf, recordRows, rootRows, bodyRows, checks, verdict}
+use Rattle.checks.specs.Refusals.{headRows, rowsOf, recordRows, rootRows, bodyRows, checks, verdict}
 use Rattle.search.specs.Machine.{Values, valueOf, solved, spent, Out, round, reached, stepped, turnOf, runFrom, fromRoot, searchOf}
 use Rattle.reach.specs.Table.{tableSays}
 use Rattle.rules.specs.Rules.{invertAt, valueAt}

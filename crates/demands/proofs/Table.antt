@@ -19,11 +19,11 @@ use Rattle.symbols.proofs.Numbers.{refusal-injective}
 use Rattle.symbols.specs.declared.Refusal.{Refusal}
 use Rattle.symbols.specs.declared.Refusal.the-variants as refusal
 use Rattle.formula.specs.File.{File, formulaOf}
-use Rattle.formula.specs.Refusals as file
-use Rattle.formula.specs.Refusals.{checks, verdict}
-use Rattle.formula.proofs.Scanning.{refuses}
-use Rattle.formula.specs.declared.checks.Finding.{Finding}
-use Rattle.formula.specs.declared.checks.Finding.the-variants.{Clear, Refuse}
+use Rattle.checks.specs.Refusals as file
+use Rattle.checks.specs.Refusals.{checks, verdict}
+use Rattle.checks.proofs.Scanning.{refuses}
+use Rattle.checks.specs.declared.Finding.{Finding}
+use Rattle.checks.specs.declared.Finding.the-variants.{Clear, Refuse}
 use Rattle.filelaws.proofs.Exactly.{checks-never}
 use Rattle.search.specs.Machine.{Values, Out}
 use Rattle.rules.specs.One.{one}

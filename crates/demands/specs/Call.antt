@@ -9,8 +9,8 @@ use Rattle.words.proofs.Draws.{Small}
 use Rattle.symbols.specs.Graph.{Graph}
 use Rattle.formula.specs.File.{File, formulaOf}
 use Rattle.formula.specs.Graph.{graphOf}
-use Rattle.formula.specs.Refusals.{checks, accepted, verdict}
-use Rattle.formula.specs.declared.checks.Finding.{Finding}
+use Rattle.checks.specs.Refusals.{checks, accepted, verdict}
+use Rattle.checks.specs.declared.Finding.{Finding}
 use Rattle.filelaws.proofs.Nodes.{Bytes}
 use Rattle.search.specs.Machine.{Values, Play, Out, searchOf}
 use Rattle.search.specs.Round.{Round, roundsOf}

@@ -8,10 +8,10 @@ use Rattle.symbols.specs.declared.SymbolId.{SymbolId}
 use Rattle.symbols.specs.declared.Named.{Named}
 use Rattle.symbols.specs.declared.Named.the-variants as named
 use Rattle.symbols.specs.declared.Refusal.{Refusal}
-use Rattle.formula.specs.Refusals.{Answer, answerOf}
+use Rattle.checks.specs.Refusals.{Answer, answerOf}
 use Rattle.formula.specs.declared.Formula.{Formula}
-use Rattle.formula.specs.declared.checks.Checked.{Checked}
-use Rattle.formula.specs.declared.checks.Checked.the-variants.{Accepted, Refused}
+use Rattle.checks.specs.declared.Checked.{Checked}
+use Rattle.checks.specs.declared.Checked.the-variants.{Accepted, Refused}
 use Rattle.ffi.specs.Out.{three}
 use Rattle.ffi.specs.Files.{checked}
 

@@ -9,10 +9,10 @@ use Rattle.symbols.specs.Refusals.{numberOf, valuesOf}
 use Rattle.symbols.specs.declared.Refusal.{Refusal}
 use Rattle.formula.specs.File.{File}
 use Rattle.formula.specs.Graph.{graphOf}
-use Rattle.formula.specs.Refusals as file
+use Rattle.checks.specs.Refusals as file
 use Rattle.formula.specs.declared.Formula.{Formula}
-use Rattle.formula.specs.declared.checks.Checked.{Checked}
-use Rattle.formula.specs.declared.checks.Checked.the-variants as checked
+use Rattle.checks.specs.declared.Checked.{Checked}
+use Rattle.checks.specs.declared.Checked.the-variants as checked
 use Rattle.search.specs.Machine.{Values, Step}
 use Rattle.rules.specs.One.{one}
 use Rattle.monster.specs.Step.{choiceOf, hereOf, stepFrom, stepOf}

@@ -2,7 +2,7 @@
 use Prim.Native.Nat.{ℕ}
 use mathlib.Core.List.{List}
 use lib.ListN.{getD}
-use Rattle.formula.specs.Refusals.{Answer, accepted, refused}
+use Rattle.checks.specs.Refusals.{Answer, accepted, refused}
 use Rattle.ffi.specs.Out.{three}
 
 -- 0, n and the root; or the refusal's number and the id that it names

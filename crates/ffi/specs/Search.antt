@@ -8,7 +8,7 @@ use Rattle.symbols.specs.declared.OperandSide.{OperandSide}
 use Rattle.symbols.specs.declared.OperandSide.the-variants.{Lhs, Rhs}
 use Rattle.formula.specs.File.{File}
 use Rattle.formula.specs.Graph.{graphOf}
-use Rattle.formula.specs.Refusals as file
+use Rattle.checks.specs.Refusals as file
 use Rattle.search.specs.Machine.{Values, Choice, byNot, inverse, consistent, Step, to, dry, End, solved as isSolved, spent as isSpent, ranDry as isDry}
 use Rattle.rules.specs.One.{one}
 use Rattle.monster.specs.Step.{hereOf, stepFrom}

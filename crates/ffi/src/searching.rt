@@ -2,7 +2,7 @@
 use super::files::id_of;
 use super::out::put_six;
 use bitvec::BitVector;
-use formula::checks::Checked;
+use checks::Checked;
 use monster::Choice;
 use monster::Move;
 use monster::Walk;
@@ -12,7 +12,7 @@ use symbols::SymbolId;
 use turns::End;
 use words::WordSource;
 ghost use mathlib.Core.Path.{_≡_};
-ghost use Rattle.formula.specs.Refusals.{verdict};
+ghost use Rattle.checks.specs.Refusals.{verdict};
 ghost use Rattle.monster.specs.Step.{choiceOf, stepOf};
 ghost use Rattle.rules.specs.One.{one};
 ghost use Rattle.solve.specs.Solve.{answer};
@@ -123,7 +123,7 @@ pub extern "C" fn step_op(
 )
     ensures { λ _. ⌜ now (out .exit) ≡ steppedOn (verdict (now (file .entry))) (now (file .entry)) (now (words .entry)) (now (values .entry)) node target at (now (out .entry)) ⌝ }
 {
-    match formula::checks::check(file) {
+    match checks::check(file) {
         Checked::Refused(r) => put_six(out, r.number(), id_of(r), 0, 0, 0, 0),
         Checked::Accepted(m) => {
             let walk = Walk {

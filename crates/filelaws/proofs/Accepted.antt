@@ -9,7 +9,7 @@ use borrow.Author.Tests.{ltb-false, eqb-true, eqb-false, not-false}
 use Rattle.symbols.specs.Graph.{Ordered}
 use Rattle.formula.specs.File.{File, Record, formulaOf, recordAt, distanceOf}
 use Rattle.formula.specs.Graph.{kindOf, nodeOf, graphOf}
-use Rattle.formula.specs.Refusals.{unknown, clean, badSpan, badRecord, accepted, verdict}
+use Rattle.checks.specs.Refusals.{unknown, clean, badSpan, badRecord, accepted, verdict}
 use Rattle.formula.specs.declared.Formula.{Formula}
 use Rattle.filelaws.specs.Known.{Known}
 use Rattle.filelaws.proofs.Exactly.{accepted-formula}

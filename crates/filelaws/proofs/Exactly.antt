@@ -11,13 +11,13 @@ use Rattle.symbols.specs.Refusals.{numberOf, valuesOf}
 use Rattle.symbols.proofs.Numbers.{refusal-injective}
 use Rattle.symbols.specs.declared.Refusal.{Refusal}
 use Rattle.formula.specs.File.{File, formulaOf}
-use Rattle.formula.specs.Refusals.{headRows, recordRows, rootRows, bodyRows, checks, Answer, accepted, refused, refuse, answer, verdict, answerOf}
-use Rattle.formula.proofs.Scanning.{refuses, head-never, records-never}
+use Rattle.checks.specs.Refusals.{headRows, recordRows, rootRows, bodyRows, checks, Answer, accepted, refused, refuse, answer, verdict, answerOf}
+use Rattle.checks.proofs.Scanning.{refuses, head-never, records-never}
 use Rattle.formula.specs.declared.Formula.{Formula}
-use Rattle.formula.specs.declared.checks.Finding.{Finding}
-use Rattle.formula.specs.declared.checks.Finding.the-variants.{Clear, Refuse}
-use Rattle.formula.specs.declared.checks.Checked.{Checked}
-use Rattle.formula.specs.declared.checks.Checked.the-variants.{Accepted, Refused}
+use Rattle.checks.specs.declared.Finding.{Finding}
+use Rattle.checks.specs.declared.Finding.the-variants.{Clear, Refuse}
+use Rattle.checks.specs.declared.Checked.{Checked}
+use Rattle.checks.specs.declared.Checked.the-variants.{Accepted, Refused}
 
 root-never : (f : File) (m : Formula) → Never (rootRows f m) Clear
 unfolding rootRows

@@ -7,7 +7,7 @@ use Rattle.symbols.specs.Graph.{constant, input, binary}
 use Rattle.symbols.specs.declared.BVOperator.the-variants.{Add, Equals}
 use Rattle.formula.specs.File.{File, le32, le64, zeros, trailerOf, formulaOf, recordAt}
 use Rattle.formula.specs.Graph.{kindNo, graphOf}
-use Rattle.formula.specs.Refusals.{headRows, rowsOf, recordRows, rootRows, bodyRows, checks, accepted, refused, verdict}
+use Rattle.checks.specs.Refusals.{headRows, rowsOf, recordRows, rootRows, bodyRows, checks, accepted, refused, verdict}
 use Rattle.formula.specs.declared.Formula.{Formula}
 
 -- sixteen bytes: four small numbers, little endian

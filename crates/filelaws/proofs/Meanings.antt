@@ -10,7 +10,7 @@ use lib.Dec.{ltb, leb, eqb}
 use borrow.Author.Tests.{ltb-true, lt-ltb, leb-true, leb-false, le-leb, eqb-true, eqb-false, eq-eqb, ne-eqb, not-true}
 use Rattle.symbols.specs.Graph.{Id, Value, Node, constant, input, unary, binary, Operand}
 use Rattle.formula.specs.File.{File, Record, Place, byte, distanceOf, versionOf, lastOf, zeros}
-use Rattle.formula.specs.Refusals.{badSize, badTrailer, badSpan, unknown, clean, badRecord, disordered, fixed}
+use Rattle.checks.specs.Refusals.{badSize, badTrailer, badSpan, unknown, clean, badRecord, disordered, fixed}
 use Rattle.formula.specs.Graph.{kindOf}
 use Rattle.formula.specs.declared.Kind.{Kind}
 use Rattle.formula.specs.declared.Kind.the-variants.{Constant, Input, Unary, Binary, Unknown}

@@ -10,7 +10,7 @@ use Rattle.laws.specs.Pick.{pick}
 use Rattle.symbols.specs.Graph.{Graph}
 use Rattle.formula.specs.File.{File, Record, le32, trailerOf, recordAt, formulaOf}
 use Rattle.formula.specs.Graph.{graphOf, nodeOf}
-use Rattle.formula.specs.Refusals.{accepted, verdict}
+use Rattle.checks.specs.Refusals.{accepted, verdict}
 use Rattle.formula.specs.declared.Formula.{Formula}
 use Rattle.filelaws.proofs.Exactly.{accepted-formula}
 use Rattle.filelaws.proofs.Accepted.{accepted-known}

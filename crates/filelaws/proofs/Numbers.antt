@@ -14,9 +14,9 @@ use Rattle.laws.proofs.Rows.{gives-left, gives-right, holds-left, holds-right, 
 use Rattle.symbols.specs.declared.Refusal.the-variants.{Size, Trailer, Span, Record, Order, Root, FixedRoot}
 use Rattle.formula.specs.File.{File, formulaOf, recordAt}
 use Rattle.formula.specs.Graph.{nodeOf, graphOf}
-use Rattle.formula.specs.Refusals.{badSize, badTrailer, badSpan, badRecord, disordered, fixed, Rows, headRows, rowsOf, recordRows, rootRows, bodyRows, checks, accepted, refused, verdict}
+use Rattle.checks.specs.Refusals.{badSize, badTrailer, badSpan, badRecord, disordered, fixed, Rows, headRows, rowsOf, recordRows, rootRows, bodyRows, checks, accepted, refused, verdict}
 use Rattle.formula.specs.declared.Formula.{Formula}
-use Rattle.formula.specs.declared.checks.Finding.the-variants.{Clear, Refuse}
+use Rattle.checks.specs.declared.Finding.the-variants.{Clear, Refuse}
 use Rattle.filelaws.specs.Fine.{Headed, Until}
 use Rattle.filelaws.proofs.Exactly.{refused-exactly, accepted-exactly}
 use Rattle.filelaws.proofs.Places.{placeOf, given-place, records-length, checks-length, row-exactly}

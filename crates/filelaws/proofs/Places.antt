@@ -10,11 +10,11 @@ use Rattle.laws.proofs.Rows.{gives-left, gives-right, holds-within}
 use Rattle.symbols.specs.declared.Refusal.{Refusal}
 use Rattle.symbols.specs.declared.Refusal.the-variants as refusal
 use Rattle.formula.specs.File.{File, formulaOf}
-use Rattle.formula.specs.Refusals.{headRows, rowsOf, recordRows, rootRows, bodyRows, checks, refuse, verdict}
+use Rattle.checks.specs.Refusals.{headRows, rowsOf, recordRows, rootRows, bodyRows, checks, refuse, verdict}
 use Rattle.filelaws.proofs.Exactly.{refused-exactly}
 use Rattle.formula.specs.declared.Formula.{Formula}
-use Rattle.formula.specs.declared.checks.Finding.{Finding}
-use Rattle.formula.specs.declared.checks.Finding.the-variants.{Clear, Refuse}
+use Rattle.checks.specs.declared.Finding.{Finding}
+use Rattle.checks.specs.declared.Finding.the-variants.{Clear, Refuse}
 
 -- where a refusal stands in the table of a file with n nodes
 unfoldable pub placeOf : ℕ → Refusal → ℕ

@@ -5,7 +5,7 @@ use mathlib.Core.Bool.{false}
 use Rattle.symbols.specs.Graph.{Id}
 use Rattle.formula.specs.File.{File, recordAt}
 use Rattle.formula.specs.Graph.{nodeOf}
-use Rattle.formula.specs.Refusals.{badSize, badTrailer, badSpan, badRecord, disordered}
+use Rattle.checks.specs.Refusals.{badSize, badTrailer, badSpan, badRecord, disordered}
 use Rattle.formula.specs.declared.Formula.{Formula}
 
 -- not 1, 2 or 3

@@ -6,7 +6,7 @@ use lib.ListN.{length}
 use Rattle.symbols.specs.Graph.{Id}
 use Rattle.formula.specs.File.{File, recordAt}
 use Rattle.formula.specs.Graph.{kindOf}
-use Rattle.formula.specs.Refusals.{unknown, clean}
+use Rattle.checks.specs.Refusals.{unknown, clean}
 use Rattle.formula.specs.declared.Formula.{Formula}
 
 -- "n records of 16 bytes (1 ≤ n ≤ 4,000), a 16-byte trailer", after the note; each record of a known kind and zero where it must

@@ -1,4 +1,3 @@
 pub mod File
 pub mod Graph
 pub mod View
-pub mod Refusals

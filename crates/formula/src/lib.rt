@@ -14,7 +14,6 @@ ghost use Rattle.formula.specs.File.{recordAt};
 ghost use Rattle.formula.specs.Graph.{nodeIs, graphOf};
 
 pub mod bytes;
-pub mod checks;
 pub mod record;
 pub mod view;
 

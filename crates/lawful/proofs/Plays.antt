@@ -13,8 +13,8 @@ use Rattle.words.proofs.Draws.{Small}
 use Rattle.symbols.specs.Graph.{Value, Node, constant, Graph}
 use Rattle.formula.specs.File.{File, formulaOf}
 use Rattle.formula.specs.Graph.{graphOf}
-use Rattle.formula.specs.Refusals.{accepted, verdict}
-use Rattle.formula.specs.Refusals as refusals
+use Rattle.checks.specs.Refusals.{accepted, verdict}
+use Rattle.checks.specs.Refusals as refusals
 use Rattle.formula.specs.declared.Formula.{Formula}
 use Rattle.filelaws.proofs.Exactly.{accepted-formula}
 use Rattle.filelaws.proofs.Numbers.{accepted-when}

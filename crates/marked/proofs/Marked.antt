@@ -7,7 +7,7 @@ use Rattle.bitvec.specs.Inverse.{inverseOf}
 use Rattle.words.specs.Words.{drawAt, rangeAt, coinAt, untilNot, notAt, choosingAt}
 use Rattle.formula.specs.File.{le32, le64, zeros, trailerOf, formulaOf, recordAt}
 use Rattle.formula.specs.Graph.{kindNo, graphOf}
-use Rattle.formula.specs.Refusals.{headRows, rowsOf, recordRows, rootRows, bodyRows, checks, verdict}
+use Rattle.checks.specs.Refusals.{headRows, rowsOf, recordRows, rootRows, bodyRows, checks, verdict}
 use Rattle.search.specs.Machine.{round, reached, stepped, turnOf, runFrom, fromRoot, searchOf}
 use Rattle.reach.specs.Table.{tableSays}
 use Rattle.rules.specs.Rules.{invertAt, valueAt}

@@ -19,14 +19,14 @@ use Rattle.symbols.specs.declared.Refusal.{Refusal}
 use Rattle.symbols.specs.declared.Refusal.the-variants as refusal
 use Rattle.formula.specs.File.{File, distanceOf, formulaOf}
 use Rattle.formula.specs.Graph.{graphOf}
-use Rattle.formula.specs.Refusals as file
-use Rattle.formula.specs.Refusals.{badSpan, headRows, bodyRows, checks, verdict, answerOf}
+use Rattle.checks.specs.Refusals as file
+use Rattle.checks.specs.Refusals.{badSpan, headRows, bodyRows, checks, verdict, answerOf}
 use Rattle.formula.specs.declared.Formula.{Formula}
-use Rattle.formula.specs.declared.checks.Checked.{Checked}
-use Rattle.formula.specs.declared.checks.Checked.the-variants as checked
-use Rattle.formula.specs.declared.checks.Finding.{Finding}
-use Rattle.formula.specs.declared.checks.Finding.the-variants.{Clear, Refuse}
-use Rattle.formula.proofs.Scanning.{refuses, head-never}
+use Rattle.checks.specs.declared.Checked.{Checked}
+use Rattle.checks.specs.declared.Checked.the-variants as checked
+use Rattle.checks.specs.declared.Finding.{Finding}
+use Rattle.checks.specs.declared.Finding.the-variants.{Clear, Refuse}
+use Rattle.checks.proofs.Scanning.{refuses, head-never}
 use Rattle.search.specs.Machine.{Values}
 use Rattle.rules.specs.One.{one}
 use Rattle.turns.specs.Turn.{outOf}

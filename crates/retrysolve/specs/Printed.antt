@@ -7,8 +7,8 @@ use Rattle.text.specs.Text.{Text}
 use Rattle.symbols.specs.Graph.{Graph}
 use Rattle.formula.specs.File.{File}
 use Rattle.formula.specs.Graph.{graphOf}
-use Rattle.formula.specs.Refusals as file
-use Rattle.formula.specs.Refusals.{verdict}
+use Rattle.checks.specs.Refusals as file
+use Rattle.checks.specs.Refusals.{verdict}
 use Rattle.rules.specs.One.{one}
 use Rattle.solve.specs.Solve.{Result, ended, refused, answer}
 use Rattle.intake.specs.Words.{wordsOf}

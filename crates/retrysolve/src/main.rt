@@ -1,8 +1,8 @@
 // The program: reads the file `graph` and the words on standard input, and prints the answer. All but the reading and writing is
 // `respond`, whose contract says what is printed.
+use checks::Checked;
 use formula::Formula;
 use formula::bytes::least;
-use formula::checks::Checked;
 use libc::STDIN_FILENO;
 use libc::STDOUT_FILENO;
 use solve::Answer;
@@ -75,7 +75,7 @@ fn solve_it(file: &[u8], m: Formula, input: &[u8], out: &mut [u8]) -> usize
 fn respond(file: &[u8], input: &[u8], out: &mut [u8]) -> usize
     ensures { λ r. ⌜ WroteUpTo 216085 (printed (now (file .entry)) (now (input .entry))) 0 (now (out .entry)) (now (out .exit)) r ⌝ }
 {
-    match formula::checks::check(file) {
+    match checks::check(file) {
         Checked::Refused(r) => report::refusal(r, out),
         Checked::Accepted(m) => solve_it(file, m, input, out),
     }

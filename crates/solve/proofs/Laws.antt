@@ -14,13 +14,13 @@ use Rattle.symbols.specs.declared.Refusal.{Refusal}
 use Rattle.symbols.specs.declared.Refusal.the-variants as refusal
 use Rattle.formula.specs.File.{File}
 use Rattle.formula.specs.Graph.{graphOf}
-use Rattle.formula.specs.Refusals as file
-use Rattle.formula.specs.Refusals.{verdict, answerOf}
+use Rattle.checks.specs.Refusals as file
+use Rattle.checks.specs.Refusals.{verdict, answerOf}
 use Rattle.formula.specs.declared.Formula.{Formula}
-use Rattle.formula.specs.declared.checks.Finding.{Finding}
-use Rattle.formula.specs.declared.checks.Finding.the-variants.{Clear, Refuse}
-use Rattle.formula.specs.declared.checks.Checked.{Checked}
-use Rattle.formula.specs.declared.checks.Checked.the-variants as checked
+use Rattle.checks.specs.declared.Finding.{Finding}
+use Rattle.checks.specs.declared.Finding.the-variants.{Clear, Refuse}
+use Rattle.checks.specs.declared.Checked.{Checked}
+use Rattle.checks.specs.declared.Checked.the-variants as checked
 use Rattle.search.specs.Machine.{Values, searchOf}
 use Rattle.rules.specs.Rules.{Rules}
 use Rattle.assign.specs.Start.{wanted, startFrom, startOf}

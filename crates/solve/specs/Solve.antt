@@ -12,10 +12,10 @@ use Rattle.symbols.specs.declared.Refusal.{Refusal}
 use Rattle.symbols.specs.declared.Refusal.the-variants as refusal
 use Rattle.formula.specs.File.{File}
 use Rattle.formula.specs.Graph.{graphOf}
-use Rattle.formula.specs.Refusals as file
-use Rattle.formula.specs.Refusals.{verdict}
-use Rattle.formula.specs.declared.checks.Finding.{Finding}
-use Rattle.formula.specs.declared.checks.Finding.the-variants.{Clear, Refuse}
+use Rattle.checks.specs.Refusals as file
+use Rattle.checks.specs.Refusals.{verdict}
+use Rattle.checks.specs.declared.Finding.{Finding}
+use Rattle.checks.specs.declared.Finding.the-variants.{Clear, Refuse}
 use Rattle.search.specs.Machine.{Values, Out, searchOf}
 use Rattle.rules.specs.Rules.{Rules}
 use Rattle.assign.specs.Start.{wanted, startOf}

@@ -1,6 +1,6 @@
 // The library's entry. It demands nothing of its caller.
+use checks::Checked;
 use formula::Formula;
-use formula::checks::Checked;
 use symbols::Refusal;
 use turns::Outcome;
 use words::WordSource;
@@ -34,7 +34,7 @@ fn run(file: &[u8], m: Formula, words: &[u64], budget: u32, values: &mut [u64]) 
 pub fn solve(file: &[u8], words: &[u64], budget: u32, values: &mut [u64]) -> Answer
     ensures { λ r. ⌜ resultOf r (now (values .exit)) ≡ answer one (now (file .entry)) (now (words .entry)) budget (now (values .entry)) ⌝ }
 {
-    match formula::checks::check(file) {
+    match checks::check(file) {
         Checked::Refused(r) => Answer::Refused(r),
         Checked::Accepted(m) => run(file, m, words, budget, values),
     }

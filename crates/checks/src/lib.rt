@@ -1,0 +1,193 @@
+// "Numbers of refusal" 1 to 7: the checks of a graph file, in the paper's order.
+use formula::Formula;
+use formula::Kind;
+use formula::Node;
+use formula::bytes::all_zero;
+use formula::bytes::less;
+use formula::bytes::u32_at;
+use formula::lookup;
+use formula::node_at;
+use formula::record::decode;
+use formula::record::record_kind;
+use symbols::Refusal;
+use symbols::SymbolId;
+ghost use mathlib.Core.Path.{_≡_};
+ghost use mathlib.Core.List.{_++_};
+ghost use Rattle.laws.specs.Rows.{first};
+ghost use Rattle.formula.specs.File.{trailerOf, formulaOf};
+ghost use Rattle.formula.specs.Graph.{nodeIs};
+ghost use Rattle.checks.specs.Refusals.{unknown, clean, disordered, fixed, headRows, rowsOf, recordRows, rootRows, bodyRows, answerOf, verdict};
+ghost use Rattle.checks.specs.declared.Finding.the-variants.{Clear};
+
+// What a part of the checks found.
+pub enum Finding {
+    Clear,
+    Refuse(Refusal),
+}
+
+pub enum Checked {
+    Accepted(Formula),
+    Refused(Refusal),
+}
+
+// The last sixteen bytes, or all where there are fewer.
+fn trailer(file: &[u8]) -> &[u8]
+    ensures { λ r. ⌜ now r ≡ trailerOf (now (file .entry)) ⌝ }
+{
+    let at = less(file.len(), 16);
+    let end = file.len();
+    &file[at..end]
+}
+
+// Where the trailer says that the formula stands.
+fn layout(file: &[u8]) -> Formula
+    ensures { λ r. ⌜ r ≡ formulaOf (now (file .entry)) ⌝ }
+{
+    let t = trailer(file);
+    let d = u32_at(t, 0);
+    let root = u32_at(t, 4);
+    let first = less(less(file.len(), 16), d as usize);
+    Formula {
+        first: first,
+        count: d / 16,
+        root: SymbolId(root),
+    }
+}
+
+fn is_unknown(k: Kind) -> bool
+    ensures { λ b. ⌜ b ≡ unknown k ⌝ }
+{
+    match k {
+        Kind::Constant => false,
+        Kind::Input => false,
+        Kind::Unary => false,
+        Kind::Binary(op) => false,
+        Kind::Unknown => true,
+    }
+}
+
+// Whether a record of this kind is zero wherever it must be.
+fn is_clean(k: Kind, r: &[u8]) -> bool
+    ensures { λ b. ⌜ b ≡ clean k (now (r .entry)) ⌝ }
+{
+    match k {
+        Kind::Constant => all_zero(r, 1, 7),
+        Kind::Input => all_zero(r, 1, 7),
+        Kind::Unary => all_zero(r, 1, 3) & all_zero(r, 8, 8),
+        Kind::Binary(op) => all_zero(r, 1, 3) & all_zero(r, 12, 4),
+        Kind::Unknown => true,
+    }
+}
+
+// Whether an operand is not below its node.
+fn is_disordered(id: SymbolId, n: Node) -> bool
+    ensures { λ b. ⌜ b ≡ disordered (id .0) (nodeIs n) ⌝ }
+{
+    match n {
+        Node::Constant(v) => false,
+        Node::Input(l) => false,
+        Node::Unary(a) => id.0 <= a.0,
+        Node::Binary(op, a, b) => (id.0 <= a.0) | (id.0 <= b.0),
+    }
+}
+
+// Whether it is a constant other than 1.
+fn is_fixed(n: Node) -> bool
+    ensures { λ b. ⌜ b ≡ fixed (nodeIs n) ⌝ }
+{
+    match n {
+        Node::Constant(v) => v.0 != 1,
+        Node::Input(l) => false,
+        Node::Unary(a) => false,
+        Node::Binary(op, a, b) => false,
+    }
+}
+
+fn check_head(file: &[u8]) -> Finding
+    ensures { λ f. ⌜ f ≡ first (headRows (now (file .entry))) Clear ⌝ }
+{
+    let n = file.len();
+    if (n < 16) | (65536 < n) {
+        return Finding::Refuse(Refusal::Size);
+    }
+    let t = trailer(file);
+    if (u32_at(t, 8) != 1) | (u32_at(t, 12) != 0) {
+        return Finding::Refuse(Refusal::Trailer);
+    }
+    let d = u32_at(t, 0);
+    if (d == 0) | (d % 16 != 0) | (64000 < d) | (less(n, 16) < d as usize) {
+        return Finding::Refuse(Refusal::Span);
+    }
+    Finding::Clear
+}
+
+fn check_record(r: &[u8], id: SymbolId) -> Finding
+    ensures { λ f. ⌜ f ≡ first (rowsOf (now (r .entry)) (id .0)) Clear ⌝ }
+{
+    let k = record_kind(r);
+    if is_unknown(k) | !is_clean(k, r) {
+        return Finding::Refuse(Refusal::Record(id));
+    }
+    if is_disordered(id, decode(k, r)) {
+        return Finding::Refuse(Refusal::Order(id));
+    }
+    Finding::Clear
+}
+
+fn check_records(file: &[u8], m: Formula) -> Finding
+    ensures { λ f. ⌜ f ≡ first (recordRows (now (file .entry)) m (m .count) 0) Clear ⌝ }
+{
+    let mut i: u32 = 0;
+    while i < m.count {
+        let r = lookup(file, m, SymbolId(i));
+        match check_record(r, SymbolId(i)) {
+            Finding::Refuse(x) => {
+                return Finding::Refuse(x);
+            }
+            Finding::Clear => {}
+        }
+        i += 1;
+    }
+    Finding::Clear
+}
+
+fn check_root(file: &[u8], m: Formula) -> Finding
+    ensures { λ f. ⌜ f ≡ first (rootRows (now (file .entry)) m) Clear ⌝ }
+{
+    if m.count <= m.root.0 {
+        return Finding::Refuse(Refusal::Root);
+    }
+    if is_fixed(node_at(file, m, m.root)) {
+        return Finding::Refuse(Refusal::FixedRoot);
+    }
+    Finding::Clear
+}
+
+fn check_body(file: &[u8], m: Formula) -> Finding
+    ensures { λ f. ⌜ f ≡ first (bodyRows (now (file .entry)) m) Clear ⌝ }
+{
+    match check_records(file, m) {
+        Finding::Refuse(r) => Finding::Refuse(r),
+        Finding::Clear => check_root(file, m),
+    }
+}
+
+fn check_rows(file: &[u8], m: Formula) -> Finding
+    ensures { λ f. ⌜ f ≡ first (headRows (now (file .entry)) ++ bodyRows (now (file .entry)) m) Clear ⌝ }
+{
+    match check_head(file) {
+        Finding::Refuse(r) => Finding::Refuse(r),
+        Finding::Clear => check_body(file, m),
+    }
+}
+
+// Accepts a graph file, or says the first thing wrong with it.
+pub fn check(file: &[u8]) -> Checked
+    ensures { λ r. ⌜ answerOf r ≡ verdict (now (file .entry)) ⌝ }
+{
+    let m = layout(file);
+    match check_rows(file, m) {
+        Finding::Refuse(r) => Checked::Refused(r),
+        Finding::Clear => Checked::Accepted(m),
+    }
+}

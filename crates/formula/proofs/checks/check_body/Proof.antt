@@ -1,8 +1,0 @@
--- `formula::checks::check_body` meets its contract. Assumes nothing.
-use Rattle.formula.proofs.Scanning.{body-refuse, body-on}
-use borrow.Author.Needs.{needs}
-use Rattle.formula.proofs.checks.check_body.Statement.{statement}
-use Rattle.formula.proofs.checks.check_body.Tie as tie
-
-pub check-body-spec : {M : Type 1} → statement M
-check-body-spec = tie.close (tie.spec (λ c κs. search needs) (λ c. search needs) (λ c. search needs) (λ c κs. search needs) (λ c. search (body-refuse, needs)) (λ c. search (body-on, needs)))

@@ -1,8 +1,0 @@
--- `formula::checks::check_rows` meets its contract. Assumes nothing.
-use Rattle.formula.proofs.Scanning.{rows-refuse, rows-on}
-use borrow.Author.Needs.{needs}
-use Rattle.formula.proofs.checks.check_rows.Statement.{statement}
-use Rattle.formula.proofs.checks.check_rows.Tie as tie
-
-pub check-rows-spec : {M : Type 1} → statement M
-check-rows-spec = tie.close (tie.spec (λ c κs. search needs) (λ c. search needs) (λ c. search needs) (λ c κs. search needs) (λ c. search (rows-refuse, needs)) (λ c. search (rows-on, needs)))

@@ -1,7 +1,0 @@
--- `formula::checks::is_fixed` meets its contract. Assumes nothing.
-use borrow.Author.Needs.{needs}
-use Rattle.formula.proofs.checks.is_fixed.Statement.{statement}
-use Rattle.formula.proofs.checks.is_fixed.Tie as tie
-
-pub is-fixed-spec : {M : Type 1} → statement M
-is-fixed-spec = tie.close (tie.spec (λ c. search needs) (λ c. search needs) (λ c. search needs) (λ c. search needs) (λ c. cc) (λ c. search needs) (λ c. search needs) (λ c. search needs))
