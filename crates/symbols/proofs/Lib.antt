@@ -1,1 +1,5 @@
 pub mod Numbers
+pub mod Tests
+pub mod Reaching
+pub mod Ranks
+pub mod Free

@@ -35,7 +35,17 @@ pub data Depends (g : Graph) : Id → Id → Type 0 where
   direct : (i j : Id) → Operand (g .node i) j → Depends g i j
   through : (i k j : Id) → Operand (g .node i) k → Depends g k j → Depends g i j
 
--- "An operand's id is below its node's id", and the root is one of the nodes
-pub record Ordered (g : Graph) : Type 0 where
+-- every operand is one of the nodes
+abbrev pub Inside : Graph → Type 0
+Inside g = (i j : Id) → i < g .count → Operand (g .node i) j → j < g .count
+
+-- Q-1: "The right rule is that no node reaches itself through operands."
+pub record WellFormed (g : Graph) : Type 0 where
+  pub inside : Inside g
+  pub acyclic : (i : Id) → i < g .count → Depends g i i → ⊥
+  pub rooted : g .root < g .count
+
+-- "Document 01 called well-formed what is only sorted": an operand's id is below its node's id
+pub record Sorted (g : Graph) : Type 0 where
   pub below : (i j : Id) → i < g .count → Operand (g .node i) j → j < i
   pub rooted : g .root < g .count

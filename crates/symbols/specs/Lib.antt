@@ -1,3 +1,5 @@
 pub mod Operators
 pub mod Refusals
 pub mod Graph
+pub mod Reaching
+pub mod Order

@@ -1,10 +1,10 @@
--- Document 01, "Numbers of refusal": the number and the values of each case. Assumes nothing.
+-- Document 01, "Numbers of refusal", and 13 of Q-1: the number and the values of each case. Assumes nothing.
 use Prim.Native.Nat.{ℕ}
 use mathlib.Core.List.{List, [], _∷_}
 use Rattle.symbols.specs.declared.Named.{Named}
 use Rattle.symbols.specs.declared.Named.the-variants as named
 use Rattle.symbols.specs.declared.Refusal.{Refusal}
-use Rattle.symbols.specs.declared.Refusal.the-variants.{Size, Trailer, Span, Record, Order, Root, FixedRoot, Room, Words, Arity, NoInverse, Dry}
+use Rattle.symbols.specs.declared.Refusal.the-variants.{Size, Trailer, Span, Record, Order, Root, FixedRoot, Room, Words, Arity, NoInverse, Dry, Cycle}
 
 abbrev pub numberOf : Refusal → ℕ
 numberOf Size = 1
@@ -19,8 +19,9 @@ numberOf Words = 9
 numberOf Arity = 10
 numberOf NoInverse = 11
 numberOf Dry = 12
+numberOf (Cycle i) = 13
 
--- "A refusal returns its number (4 and 5 the id)"
+-- "A refusal returns its number (4 and 5 the id)"; Q-1: "13 Cycle(id) … printed like 5"
 abbrev pub valuesOf : Refusal → List ℕ
 valuesOf Size = []
 valuesOf Trailer = []
@@ -34,6 +35,7 @@ valuesOf Words = []
 valuesOf Arity = []
 valuesOf NoInverse = []
 valuesOf Dry = []
+valuesOf (Cycle i) = i .0 ∷ []
 
 -- the values that the code's answer names
 abbrev pub namedOf : Named → List ℕ

@@ -1,4 +1,4 @@
-// mod.rs of the source: the sides, the nine operators, symbols and their ids; and the refusals of document 01.
+// mod.rs of the source: the sides, the nine operators, symbols and their ids; and the refusals of document 01 and of Q-1.
 use bitvec::BitVector;
 ghost use mathlib.Core.Path.{_≡_};
 ghost use mathlib.Core.Bool.{not};
@@ -81,6 +81,7 @@ pub enum Refusal {
     Arity,
     NoInverse,
     Dry,
+    Cycle(SymbolId),
 }
 
 // The values of a refusal: none, or an id.
@@ -106,6 +107,7 @@ impl Refusal {
             Refusal::Arity => 10,
             Refusal::NoInverse => 11,
             Refusal::Dry => 12,
+            Refusal::Cycle(i) => 13,
         }
     }
 
@@ -125,6 +127,7 @@ impl Refusal {
             Refusal::Arity => Named::Nothing,
             Refusal::NoInverse => Named::Nothing,
             Refusal::Dry => Named::Nothing,
+            Refusal::Cycle(i) => Named::Id(i),
         }
     }
 }
