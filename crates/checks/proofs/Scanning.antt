@@ -13,9 +13,9 @@ use Rattle.symbols.specs.declared.BVOperator.{BVOperator}
 use Rattle.symbols.specs.declared.SymbolId.{SymbolId}
 use Rattle.symbols.specs.declared.Refusal.{Refusal}
 use Rattle.symbols.specs.declared.Refusal.the-variants as refusal
-use Rattle.formula.specs.File.{File, Record, le32, trailerOf, distanceOf, formulaOf, recordAt}
+use Rattle.formula.specs.File.{File, Record, le32, trailerOf, distanceOf, recordAt}
 use Rattle.formula.specs.Graph.{kindOf, nodeBy, nodeOf, graphOf, nodeIs}
-use Rattle.checks.specs.Refusals.{unknown, clean, badRecord, disordered, fixed, Rows, headRows, rowsOf, recordRows, rootRows, bodyRows, accepted, refuse, answer, checks, verdict}
+use Rattle.checks.specs.Refusals.{unknown, clean, badRecord, outside, fixed, Rows, headRows, rowsOf, recordRows, rootRows}
 use Rattle.formula.specs.declared.Formula.{Formula}
 use Rattle.formula.specs.declared.Kind.{Kind}
 use Rattle.formula.specs.declared.Node.{Node}
@@ -23,8 +23,8 @@ use Rattle.formula.specs.declared.Node.the-variants as node
 use Rattle.checks.specs.declared.Finding.{Finding}
 use Rattle.checks.specs.declared.Finding.the-variants.{Clear, Refuse}
 
-pub order-two : (i : ℕ) (n : Node) (o : BVOperator) (a b : SymbolId) → n ≡ node.Binary o a b → (leb i (a .0) || leb i (b .0)) ≡ disordered i (nodeIs n)
-order-two i n o a b e = ap (λ (x : Node). disordered i (nodeIs x)) (sym e)
+pub outside-two : (n : ℕ) (x : Node) (o : BVOperator) (a b : SymbolId) → x ≡ node.Binary o a b → (leb n (a .0) || leb n (b .0)) ≡ outside n (nodeIs x)
+outside-two n x o a b e = ap (λ (y : Node). outside n (nodeIs y)) (sym e)
 
 -- a row refuses, so no row gives Clear
 pub refuses : (r : Refusal) → Refuse r ≡ Clear → ⊥
@@ -34,9 +34,9 @@ pub head-never : (f : File) → Never (headRows f) Clear
 unfolding headRows
 head-never f = (refuses _, (refuses _, (refuses _, tt)))
 
-rows-never : (r : Record) (i : ℕ) → Never (rowsOf r i) Clear
+pub rows-never : (r : Record) (n i : ℕ) → Never (rowsOf r n i) Clear
 unfolding rowsOf
-rows-never r i = (refuses _, (refuses _, tt))
+rows-never r n i = (refuses _, (refuses _, tt))
 
 pub records-never : (f : File) (m : Formula) (k i : ℕ) → Never (recordRows f m k i) Clear
 unfolding recordRows
@@ -45,10 +45,10 @@ records-never f m (suc k) i = search (never-append, rows-never, records-never f 
 
 -- one part of the table after another
 module _ (a b : Rows) (x : Finding) (hx : x ≡ first a Clear) where
-  then-refuse : (r : Refusal) → x ≡ Refuse r → Refuse r ≡ first (a ++ b) Clear
+  pub then-refuse : (r : Refusal) → x ≡ Refuse r → Refuse r ≡ first (a ++ b) Clear
   then-refuse r e = sym (append-given a b Clear (Refuse r) (refuses r) (sym hx ∙ e))
 
-  then-on : (y : Finding) → Never a Clear → x ≡ Clear → y ≡ first b Clear → y ≡ first (a ++ b) Clear
+  pub then-on : (y : Finding) → Never a Clear → x ≡ Clear → y ≡ first b Clear → y ≡ first (a ++ b) Clear
   then-on y v e h = h ∙ sym (append-clear a b Clear v (sym hx ∙ e))
 
 -- the first three rows
@@ -79,25 +79,25 @@ module _ (f : File) where
       head-clear h = first-next _ _ _ _ _ size (first-next _ _ _ _ _ (sym bad ∙ trailer) (first-next _ _ _ _ _ (sym far ∙ h) (first-none _)))
 
 -- the two rows of a record
-module _ (r : List ℕ) (i : SymbolId) (k : Kind) (u b : Bool) (hk : k ≡ kindOf r) (hu : u ≡ unknown k) (hb : b ≡ clean k r) where
+module _ (r : List ℕ) (w : ℕ) (i : SymbolId) (k : Kind) (u b : Bool) (hk : k ≡ kindOf r) (hu : u ≡ unknown k) (hb : b ≡ clean k r) where
   held : (u || not b) ≡ badRecord r
   held = rw (hu, hb, hk)
 
-  pub record-bad : (u || not b) ≡ true → Refuse (refusal.Record i) ≡ first (rowsOf r (i .0)) Clear
+  pub record-bad : (u || not b) ≡ true → Refuse (refusal.Record i) ≡ first (rowsOf r w (i .0)) Clear
   unfolding rowsOf
   record-bad h = first-here _ _ _ _ (sym held ∙ h)
 
-  module _ (good : (u || not b) ≡ false) (n : Node) (o : Bool) (hn : nodeIs n ≡ nodeBy k r) (ho : o ≡ disordered (i .0) (nodeIs n)) where
-    ord : o ≡ disordered (i .0) (nodeOf r)
-    ord = ho ∙ ap (disordered (i .0)) (hn ∙ ap (λ (x : Kind). nodeBy x r) hk)
+  module _ (good : (u || not b) ≡ false) (n : Node) (o : Bool) (hn : nodeIs n ≡ nodeBy k r) (ho : o ≡ outside w (nodeIs n)) where
+    out : o ≡ outside w (nodeOf r)
+    out = ho ∙ ap (outside w) (hn ∙ ap (λ (x : Kind). nodeBy x r) hk)
 
-    pub record-order : o ≡ true → Refuse (refusal.Order i) ≡ first (rowsOf r (i .0)) Clear
+    pub record-order : o ≡ true → Refuse (refusal.Order i) ≡ first (rowsOf r w (i .0)) Clear
     unfolding rowsOf
-    record-order h = first-next _ _ _ _ _ (sym held ∙ good) (first-here _ _ _ _ (sym ord ∙ h))
+    record-order h = first-next _ _ _ _ _ (sym held ∙ good) (first-here _ _ _ _ (sym out ∙ h))
 
-    pub record-clear : o ≡ false → Clear ≡ first (rowsOf r (i .0)) Clear
+    pub record-clear : o ≡ false → Clear ≡ first (rowsOf r w (i .0)) Clear
     unfolding rowsOf
-    record-clear h = first-next _ _ _ _ _ (sym held ∙ good) (first-next _ _ _ _ _ (sym ord ∙ h) (first-none _))
+    record-clear h = first-next _ _ _ _ _ (sym held ∙ good) (first-next _ _ _ _ _ (sym out ∙ h) (first-none _))
 
 -- the scan: e is what the whole finds
 pub scan-begin : (f : File) (m : Formula) → first (recordRows f m (m .count - 0) 0) Clear ≡ first (recordRows f m (m .count) 0) Clear
@@ -107,19 +107,19 @@ module _ (f : File) (m : Formula) (i : ℕ) (e : Finding) (inv : first (recordRo
   next-one : i < m .count → m .count - i ≡ suc (m .count - (i + 1))
   next-one h = omega arith
 
-  module _ (h : i < m .count) (r : List ℕ) (x : Finding) (hr : r ≡ recordAt f m i) (hx : x ≡ first (rowsOf r i) Clear) where
-    scan-one : first (rowsOf (recordAt f m i) i ++ recordRows f m (m .count - (i + 1)) (i + 1)) Clear ≡ e
+  module _ (h : i < m .count) (r : List ℕ) (x : Finding) (hr : r ≡ recordAt f m i) (hx : x ≡ first (rowsOf r (m .count) i) Clear) where
+    scan-one : first (rowsOf (recordAt f m i) (m .count) i ++ recordRows f m (m .count - (i + 1)) (i + 1)) Clear ≡ e
     unfolding recordRows
     scan-one = rw (next-one h) at inv
 
-    found : x ≡ first (rowsOf (recordAt f m i) i) Clear
-    found = hx ∙ ap (λ (l : List ℕ). first (rowsOf l i) Clear) hr
+    found : x ≡ first (rowsOf (recordAt f m i) (m .count) i) Clear
+    found = hx ∙ ap (λ (l : List ℕ). first (rowsOf l (m .count) i) Clear) hr
 
     pub scan-stop : (z : Refusal) → x ≡ Refuse z → Refuse z ≡ e
     scan-stop z q = then-refuse _ _ x found z q ∙ scan-one
 
     pub scan-again : x ≡ Clear → first (recordRows f m (m .count - (i + 1)) (i + 1)) Clear ≡ e
-    scan-again q = sym (append-clear _ _ Clear (rows-never _ i) (sym found ∙ q)) ∙ scan-one
+    scan-again q = sym (append-clear _ _ Clear (rows-never _ (m .count) i) (sym found ∙ q)) ∙ scan-one
 
   pub scan-over : m .count ≤ i → Clear ≡ e
   unfolding recordRows
@@ -139,33 +139,3 @@ module _ (f : File) (m : Formula) where
     pub root-clear : b ≡ false → Clear ≡ first (rootRows f m) Clear
     unfolding rootRows
     root-clear h = first-next _ _ _ _ _ (lt-leb _ _ inside) (first-next _ _ _ _ _ (sym (hb ∙ ap fixed hn) ∙ h) (first-none _))
-
--- the records, then the root
-module _ (f : File) (m : Formula) (x : Finding) (hx : x ≡ first (recordRows f m (m .count) 0) Clear) where
-  pub body-refuse : (r : Refusal) → x ≡ Refuse r → Refuse r ≡ first (bodyRows f m) Clear
-  unfolding bodyRows
-  body-refuse r e = then-refuse _ _ x hx r e
-
-  pub body-on : (y : Finding) → x ≡ Clear → y ≡ first (rootRows f m) Clear → y ≡ first (bodyRows f m) Clear
-  unfolding bodyRows
-  body-on y e h = then-on _ _ x hx y (records-never f m (m .count) 0) e h
-
--- the head, then the body
-module _ (f : File) (b : Rows) (x : Finding) (hx : x ≡ first (headRows f) Clear) where
-  pub rows-refuse : (r : Refusal) → x ≡ Refuse r → Refuse r ≡ first (headRows f ++ b) Clear
-  rows-refuse r e = then-refuse _ b x hx r e
-
-  pub rows-on : (y : Finding) → x ≡ Clear → y ≡ first b Clear → y ≡ first (headRows f ++ b) Clear
-  rows-on y e h = then-on _ b x hx y (head-never f) e h
-
--- the whole
-module _ (f : File) (m : Formula) (hm : m ≡ formulaOf f) (x : Finding) (hx : x ≡ first (headRows f ++ bodyRows f m) Clear) where
-  whole : answer x m ≡ verdict f
-  unfolding verdict checks
-  whole = ap (λ (z : Finding). answer z m) hx ∙ ap (λ (z : Formula). answer (first (headRows f ++ bodyRows f z) Clear) z) hm
-
-  pub check-refused : (r : Refusal) → x ≡ Refuse r → refuse r ≡ verdict f
-  check-refused r e = ap (λ (z : Finding). answer z m) (sym e) ∙ whole
-
-  pub check-accepted : x ≡ Clear → accepted m ≡ verdict f
-  check-accepted e = ap (λ (z : Finding). answer z m) (sym e) ∙ whole

@@ -1,14 +1,15 @@
--- Document 01, "Numbers of refusal", 1 to 7: the checks of a graph file, in the paper's order. Assumes nothing.
+-- Document 01, "Numbers of refusal", 1 to 7, and 13 of Q-1: the checks of a graph file, in the papers' order. Assumes nothing.
 use Prim.Native.Nat.{ℕ, zero, suc, _+_, _-_, _%_}
 use mathlib.Core.List.{List, [], _∷_, _++_}
 use mathlib.Core.Bool.{Bool, true, false, not, _&&_, _||_}
 use lib.ListN.{length}
 use lib.Dec.{ltb, leb, eqb}
 use Rattle.laws.specs.Rows.{Row, row, first}
-use Rattle.symbols.specs.Graph.{Id, Node, constant, input, unary, binary}
+use Rattle.symbols.specs.Graph.{Id, Node, constant, input, unary, binary, Graph}
+use Rattle.symbols.specs.Reaching.{reaches}
 use Rattle.symbols.specs.Refusals.{numberOf, valuesOf}
 use Rattle.symbols.specs.declared.Refusal.{Refusal}
-use Rattle.symbols.specs.declared.Refusal.the-variants.{Size, Trailer, Span, Record, Order, Root, FixedRoot}
+use Rattle.symbols.specs.declared.Refusal.the-variants.{Size, Trailer, Span, Record, Order, Root, FixedRoot, Cycle}
 use Rattle.formula.specs.File as file
 use Rattle.formula.specs.File.{File, recordAt, distanceOf, versionOf, lastOf, formulaOf, zeros}
 use Rattle.formula.specs.Graph.{kindOf, nodeOf, graphOf}
@@ -52,12 +53,12 @@ clean Unknown r = true
 abbrev pub badRecord : file.Record → Bool
 badRecord r = unknown (kindOf r) || not (clean (kindOf r) r)
 
--- "an operand id not below its own"
-abbrev pub disordered : Id → Node → Bool
-disordered i (constant v) = false
-disordered i (input l) = false
-disordered i (unary a) = leb i a
-disordered i (binary o a b) = leb i a || leb i b
+-- Q-1: "5 now means an operand id not below n"
+abbrev pub outside : ℕ → Node → Bool
+outside n (constant v) = false
+outside n (input l) = false
+outside n (unary a) = leb n a
+outside n (binary o a b) = leb n a || leb n b
 
 -- "root is a constant other than 1"
 abbrev pub fixed : Node → Bool
@@ -79,16 +80,21 @@ headRows f =
     ∷ []
 
 -- 4 Record(id), 5 Order(id): "4 before 5 within one"
-unfoldable pub rowsOf : file.Record → Id → Rows
-rowsOf r i =
+unfoldable pub rowsOf : file.Record → ℕ → Id → Rows
+rowsOf r n i =
     row (badRecord r) (Refuse (Record record { 0 = i }))
-    ∷ row (disordered i (nodeOf r)) (Refuse (Order record { 0 = i }))
+    ∷ row (outside n (nodeOf r)) (Refuse (Order record { 0 = i }))
     ∷ []
 
 -- "Records are scanned upward; the first bad id is named": the rows of k records from i on
 unfoldable pub recordRows : File → Formula → ℕ → Id → Rows
 recordRows f m zero i = []
-recordRows f m (suc k) i = rowsOf (recordAt f m i) i ++ recordRows f m k (i + 1)
+recordRows f m (suc k) i = rowsOf (recordAt f m i) (m .count) i ++ recordRows f m k (i + 1)
+
+-- Q-1: "13 Cycle(id), the lowest id that reaches itself": the rows of k nodes from i on
+unfoldable pub cycleRows : Graph → ℕ → Id → Rows
+cycleRows g zero i = []
+cycleRows g (suc k) i = row (reaches g i i) (Refuse (Cycle record { 0 = i })) ∷ cycleRows g k (i + 1)
 
 -- 6 Root: "root ≥ n"; 7 FixedRoot
 unfoldable pub rootRows : File → Formula → Rows
@@ -97,8 +103,9 @@ rootRows f m =
     ∷ row (fixed (graphOf f m .node (m .root .0))) (Refuse FixedRoot)
     ∷ []
 
+-- 13 is "after all records, before 6"
 unfoldable pub bodyRows : File → Formula → Rows
-bodyRows f m = recordRows f m (m .count) 0 ++ rootRows f m
+bodyRows f m = recordRows f m (m .count) 0 ++ (cycleRows (graphOf f m) (m .count) 0 ++ rootRows f m)
 
 -- the whole table
 unfoldable pub checks : File → Rows

@@ -1,4 +1,4 @@
-// "Numbers of refusal" 1 to 7: the checks of a graph file, in the paper's order.
+// "Numbers of refusal" 1 to 7 and 13: the checks of a graph file, in the papers' order.
 use formula::Formula;
 use formula::Kind;
 use formula::Node;
@@ -11,13 +11,19 @@ use formula::record::decode;
 use formula::record::record_kind;
 use symbols::Refusal;
 use symbols::SymbolId;
+ghost use Prim.Native.Nat.{_≤_};
 ghost use mathlib.Core.Path.{_≡_};
 ghost use mathlib.Core.List.{_++_};
+ghost use lib.ListN.{length};
 ghost use Rattle.laws.specs.Rows.{first};
+ghost use Rattle.symbols.specs.Graph.{Inside};
+ghost use Rattle.symbols.specs.Order.{Arranged};
 ghost use Rattle.formula.specs.File.{trailerOf, formulaOf};
-ghost use Rattle.formula.specs.Graph.{nodeIs};
-ghost use Rattle.checks.specs.Refusals.{unknown, clean, disordered, fixed, headRows, rowsOf, recordRows, rootRows, bodyRows, answerOf, verdict};
+ghost use Rattle.formula.specs.Graph.{nodeIs, graphOf};
+ghost use Rattle.formula.specs.declared.Formula.{Formula};
+ghost use Rattle.checks.specs.Refusals.{unknown, clean, outside, fixed, headRows, rowsOf, recordRows, cycleRows, rootRows, bodyRows, answerOf, verdict};
 ghost use Rattle.checks.specs.declared.Finding.the-variants.{Clear};
+ghost use Rattle.checks.specs.declared.Checked.the-variants.{Accepted};
 
 // What a part of the checks found.
 pub enum Finding {
@@ -79,15 +85,15 @@ fn is_clean(k: Kind, r: &[u8]) -> bool
     }
 }
 
-// Whether an operand is not below its node.
-fn is_disordered(id: SymbolId, n: Node) -> bool
-    ensures { λ b. ⌜ b ≡ disordered (id .0) (nodeIs n) ⌝ }
+// Whether an operand is none of the n nodes.
+fn is_outside(n: u32, node: Node) -> bool
+    ensures { λ b. ⌜ b ≡ outside n (nodeIs node) ⌝ }
 {
-    match n {
+    match node {
         Node::Constant(v) => false,
         Node::Input(l) => false,
-        Node::Unary(a) => id.0 <= a.0,
-        Node::Binary(op, a, b) => (id.0 <= a.0) | (id.0 <= b.0),
+        Node::Unary(a) => n <= a.0,
+        Node::Binary(op, a, b) => (n <= a.0) | (n <= b.0),
     }
 }
 
@@ -121,14 +127,14 @@ fn check_head(file: &[u8]) -> Finding
     Finding::Clear
 }
 
-fn check_record(r: &[u8], id: SymbolId) -> Finding
-    ensures { λ f. ⌜ f ≡ first (rowsOf (now (r .entry)) (id .0)) Clear ⌝ }
+fn check_record(r: &[u8], n: u32, id: SymbolId) -> Finding
+    ensures { λ f. ⌜ f ≡ first (rowsOf (now (r .entry)) n (id .0)) Clear ⌝ }
 {
     let k = record_kind(r);
     if is_unknown(k) | !is_clean(k, r) {
         return Finding::Refuse(Refusal::Record(id));
     }
-    if is_disordered(id, decode(k, r)) {
+    if is_outside(n, decode(k, r)) {
         return Finding::Refuse(Refusal::Order(id));
     }
     Finding::Clear
@@ -140,7 +146,7 @@ fn check_records(file: &[u8], m: Formula) -> Finding
     let mut i: u32 = 0;
     while i < m.count {
         let r = lookup(file, m, SymbolId(i));
-        match check_record(r, SymbolId(i)) {
+        match check_record(r, m.count, SymbolId(i)) {
             Finding::Refuse(x) => {
                 return Finding::Refuse(x);
             }
@@ -149,6 +155,38 @@ fn check_records(file: &[u8], m: Formula) -> Finding
         i += 1;
     }
     Finding::Clear
+}
+
+// The lowest id that reaches itself.
+fn first_cycle(file: &[u8], m: Formula, seen: &mut [u32], todo: &mut [u32]) -> Finding
+    requires { ⌜ Inside (graphOf (now file) m) × (m .count ≤ 4000) × (m .count ≤ length (now seen)) × (m .count ≤ length (now todo)) ⌝ }
+    ensures { λ f. ⌜ f ≡ first (cycleRows (graphOf (now (file .entry)) m) (m .count) 0) Clear ⌝ }
+{
+    let mut i: u32 = 0;
+    while i < m.count {
+        if order::reaches_itself(file, m, seen, todo, SymbolId(i)) {
+            return Finding::Refuse(Refusal::Cycle(SymbolId(i)));
+        }
+        i += 1;
+    }
+    Finding::Clear
+}
+
+// The nodes in an order in which operands come first, where they have one.
+fn check_cycles(
+    file: &[u8],
+    m: Formula,
+    place: &mut [u32],
+    order: &mut [u32],
+    stack: &mut [u32],
+) -> Finding
+    requires { ⌜ Inside (graphOf (now file) m) × (m .count ≤ 4000) × (4000 ≤ length (now place)) × (4000 ≤ length (now order)) × (4000 ≤ length (now stack)) ⌝ }
+    ensures { λ f. ⌜ (f ≡ first (cycleRows (graphOf (now (file .entry)) m) (m .count) 0) Clear) × (f ≡ Clear → Arranged (graphOf (now (file .entry)) m) (now (order .exit))) × (length (now (order .exit)) ≡ length (now (order .entry))) ⌝ }
+{
+    if order::arrange(file, m, place, order, stack) {
+        return Finding::Clear;
+    }
+    first_cycle(file, m, place, stack)
 }
 
 fn check_root(file: &[u8], m: Formula) -> Finding
@@ -163,31 +201,81 @@ fn check_root(file: &[u8], m: Formula) -> Finding
     Finding::Clear
 }
 
-fn check_body(file: &[u8], m: Formula) -> Finding
-    ensures { λ f. ⌜ f ≡ first (bodyRows (now (file .entry)) m) Clear ⌝ }
+// The graph that the records are: its cycles, then its root.
+fn check_graph(
+    file: &[u8],
+    m: Formula,
+    place: &mut [u32],
+    order: &mut [u32],
+    stack: &mut [u32],
+) -> Finding
+    requires { ⌜ Inside (graphOf (now file) m) × (m .count ≤ 4000) × (4000 ≤ length (now place)) × (4000 ≤ length (now order)) × (4000 ≤ length (now stack)) ⌝ }
+    ensures { λ f. ⌜ (f ≡ first (cycleRows (graphOf (now (file .entry)) m) (m .count) 0 ++ rootRows (now (file .entry)) m) Clear) × (f ≡ Clear → Arranged (graphOf (now (file .entry)) m) (now (order .exit))) × (length (now (order .exit)) ≡ length (now (order .entry))) ⌝ }
 {
-    match check_records(file, m) {
+    match check_cycles(file, m, place, order, stack) {
         Finding::Refuse(r) => Finding::Refuse(r),
         Finding::Clear => check_root(file, m),
     }
 }
 
-fn check_rows(file: &[u8], m: Formula) -> Finding
-    ensures { λ f. ⌜ f ≡ first (headRows (now (file .entry)) ++ bodyRows (now (file .entry)) m) Clear ⌝ }
+fn check_body(
+    file: &[u8],
+    m: Formula,
+    place: &mut [u32],
+    order: &mut [u32],
+    stack: &mut [u32],
+) -> Finding
+    requires { ⌜ (m .count ≤ 4000) × (4000 ≤ length (now place)) × (4000 ≤ length (now order)) × (4000 ≤ length (now stack)) ⌝ }
+    ensures { λ f. ⌜ (f ≡ first (bodyRows (now (file .entry)) m) Clear) × (f ≡ Clear → Arranged (graphOf (now (file .entry)) m) (now (order .exit))) × (length (now (order .exit)) ≡ length (now (order .entry))) ⌝ }
 {
-    match check_head(file) {
+    match check_records(file, m) {
         Finding::Refuse(r) => Finding::Refuse(r),
-        Finding::Clear => check_body(file, m),
+        Finding::Clear => check_graph(file, m, place, order, stack),
     }
 }
 
-// Accepts a graph file, or says the first thing wrong with it.
-pub fn check(file: &[u8]) -> Checked
-    ensures { λ r. ⌜ answerOf r ≡ verdict (now (file .entry)) ⌝ }
+fn check_rows(
+    file: &[u8],
+    m: Formula,
+    place: &mut [u32],
+    order: &mut [u32],
+    stack: &mut [u32],
+) -> Finding
+    requires { ⌜ (m ≡ formulaOf (now file)) × (4000 ≤ length (now place)) × (4000 ≤ length (now order)) × (4000 ≤ length (now stack)) ⌝ }
+    ensures { λ f. ⌜ (f ≡ first (headRows (now (file .entry)) ++ bodyRows (now (file .entry)) m) Clear) × (f ≡ Clear → Arranged (graphOf (now (file .entry)) m) (now (order .exit))) × (length (now (order .exit)) ≡ length (now (order .entry))) ⌝ }
 {
+    match check_head(file) {
+        Finding::Refuse(r) => Finding::Refuse(r),
+        Finding::Clear => check_body(file, m, place, order, stack),
+    }
+}
+
+// A place for each node of an accepted file.
+fn scratch() -> [u32; 4000]
+    ensures { λ r. ⌜ 4000 ≡ length r ⌝ }
+{
+    [0; 4000]
+}
+
+// Accepts a graph file, or says the first thing wrong with it. Of an accepted file, `order` begins with its nodes, each after its
+// operands.
+pub fn check_order(file: &[u8], order: &mut [u32]) -> Checked
+    requires { ⌜ 4000 ≤ length (now order) ⌝ }
+    ensures { λ r. ⌜ (answerOf r ≡ verdict (now (file .entry))) × ((m : Formula) → r ≡ Accepted m → Arranged (graphOf (now (file .entry)) m) (now (order .exit))) × (length (now (order .exit)) ≡ length (now (order .entry))) ⌝ }
+{
+    let mut place = scratch();
+    let mut stack = scratch();
     let m = layout(file);
-    match check_rows(file, m) {
+    match check_rows(file, m, &mut place, order, &mut stack) {
         Finding::Refuse(r) => Checked::Refused(r),
         Finding::Clear => Checked::Accepted(m),
     }
+}
+
+// The same, without the order.
+pub fn check(file: &[u8]) -> Checked
+    ensures { λ r. ⌜ answerOf r ≡ verdict (now (file .entry)) ⌝ }
+{
+    let mut order = scratch();
+    check_order(file, &mut order)
 }

@@ -1,4 +1,4 @@
--- What an accepted file is known to be: its bytes, and that its graph is ordered. Assumes nothing.
+-- What an accepted file is known to be: its bytes, and that its graph is well-formed. Assumes nothing.
 use Prim.Native.Nat.{_-_, _%_, _≤_}
 use mathlib.Core.Path.{_≡_, sym, ap, subst, _∙_}
 use mathlib.Core.Bool.{true, false, not}
@@ -6,21 +6,23 @@ use native.Mathlib.Omega.{arith}
 use lib.ListN.{length}
 use lib.Dec.{ltb, eqb}
 use borrow.Author.Tests.{ltb-false, eqb-true, eqb-false, not-false}
-use Rattle.symbols.specs.Graph.{Ordered}
+use Rattle.symbols.specs.Graph.{WellFormed}
+use Rattle.symbols.specs.Order.{Acyclic}
+use Rattle.symbols.proofs.Tests.{or-no}
+use Rattle.symbols.proofs.Ranks.{well-formed-acyclic}
 use Rattle.formula.specs.File.{File, Record, formulaOf, recordAt, distanceOf}
-use Rattle.formula.specs.Graph.{kindOf, nodeOf, graphOf}
+use Rattle.formula.specs.Graph.{kindOf, graphOf}
 use Rattle.checks.specs.Refusals.{unknown, clean, badSpan, badRecord, accepted, verdict}
+use Rattle.checks.proofs.Joining.{span-few}
 use Rattle.formula.specs.declared.Formula.{Formula}
 use Rattle.filelaws.specs.Known.{Known}
 use Rattle.filelaws.proofs.Exactly.{accepted-formula}
-use Rattle.filelaws.proofs.Numbers.{accepted-when}
-use Rattle.filelaws.proofs.Meanings.{or-no, ordered-means}
+use Rattle.filelaws.proofs.Numbers.{until-inside, accepted-when}
 
 -- the distance of a good span
 pub record Spanned (f : File) : Type 0 where
   pub some : distanceOf f ≡ 0 → ⊥
   pub whole : distanceOf f % 16 ≡ 0
-  pub few : distanceOf f ≤ 64000
   pub inside : distanceOf f ≤ length f - 16
 
 spanned : (f : File) → badSpan f ≡ false → Spanned f
@@ -32,7 +34,6 @@ spanned f e =
     record {
       some = eqb-false d 0 (l .0);
       whole = eqb-true (d % 16) 0 (not-false _ (l .1));
-      few = ltb-false 64000 d (k .1);
       inside = ltb-false (length f - 16) d (h .1);
     }
 
@@ -43,25 +44,25 @@ known-whole : (f : File) → verdict f ≡ accepted (formulaOf f) → Known f (f
 unfolding formulaOf
 known-whole f e =
     let w = accepted-when f .0 e in
-    let s = spanned f (w .0 .headed .span) in
-    let z = or-no (ltb (length f) 16) _ (w .0 .headed .size) in
+    let s = spanned f (w .0 .records .headed .span) in
+    let z = or-no (ltb (length f) 16) _ (w .0 .records .headed .size) in
     let low = ltb-false (length f) 16 (z .0) in
     let high = ltb-false 65536 (length f) (z .1) in
     record {
       some = let a = s .some in let b = s .whole in omega arith;
-      few = let a = s .few in omega arith;
+      few = span-few f (w .0 .records .headed .span);
       filled = let b = s .whole in let c = s .inside in omega arith;
       small = high;
       rooted = w .1;
-      kinds = λ i p. good (recordAt f (formulaOf f) i) (w .0 .fine i p .known) .0;
-      zero = λ i p. good (recordAt f (formulaOf f) i) (w .0 .fine i p .known) .1;
+      kinds = λ i p. good (recordAt f (formulaOf f) i) (w .0 .records .fine i p .known) .0;
+      zero = λ i p. good (recordAt f (formulaOf f) i) (w .0 .records .fine i p .known) .1;
     }
 
-ordered-whole : (f : File) → verdict f ≡ accepted (formulaOf f) → Ordered (graphOf f (formulaOf f))
+well-formed-whole : (f : File) → verdict f ≡ accepted (formulaOf f) → WellFormed (graphOf f (formulaOf f))
 unfolding graphOf
-ordered-whole f e =
+well-formed-whole f e =
     let w = accepted-when f .0 e in
-    record { below = λ i j p h. ordered-means i j (nodeOf (recordAt f (formulaOf f) i)) (w .0 .fine i p .ordered) h; rooted = w .1 }
+    record { inside = until-inside f (w .0 .records); acyclic = w .0 .free; rooted = w .1 }
 
 module _ (f : File) (m : Formula) (e : verdict f ≡ accepted m) where
   own : m ≡ formulaOf f
@@ -73,6 +74,9 @@ module _ (f : File) (m : Formula) (e : verdict f ≡ accepted m) where
   pub accepted-known : Known f m
   accepted-known = subst (Known f) (sym own) (known-whole f at-own)
 
-  -- what the check accepts is an ordered graph
-  pub accepted-ordered : Ordered (graphOf f m)
-  accepted-ordered = subst (λ (w : Formula). Ordered (graphOf f w)) (sym own) (ordered-whole f at-own)
+  -- what the check accepts is a well-formed graph
+  pub accepted-well-formed : WellFormed (graphOf f m)
+  accepted-well-formed = subst (λ (w : Formula). WellFormed (graphOf f w)) (sym own) (well-formed-whole f at-own)
+
+  pub accepted-acyclic : Acyclic (graphOf f m)
+  accepted-acyclic = let w = accepted-well-formed in well-formed-acyclic (graphOf f m) (w .inside) (w .acyclic)

@@ -2,7 +2,7 @@
 -- Assumes nothing.
 use mathlib.Core.Path.{_≡_, refl, sym, ap, _∙_}
 use Prim.Native.Nat.{ℕ}
-use mathlib.Core.List.{List, []}
+use mathlib.Core.List.{List, [], _++_}
 use mathlib.Core.Logic.{_↔_}
 use native.Mathlib.Omega.{arith}
 use Rattle.laws.specs.Rows.{first, Given, None, Never}
@@ -11,8 +11,10 @@ use Rattle.symbols.specs.Refusals.{numberOf, valuesOf}
 use Rattle.symbols.proofs.Numbers.{refusal-injective}
 use Rattle.symbols.specs.declared.Refusal.{Refusal}
 use Rattle.formula.specs.File.{File, formulaOf}
-use Rattle.checks.specs.Refusals.{headRows, recordRows, rootRows, bodyRows, checks, Answer, accepted, refused, refuse, answer, verdict, answerOf}
+use Rattle.formula.specs.Graph.{graphOf}
+use Rattle.checks.specs.Refusals.{Rows, headRows, recordRows, cycleRows, rootRows, bodyRows, checks, Answer, accepted, refused, refuse, answer, verdict, answerOf}
 use Rattle.checks.proofs.Scanning.{refuses, head-never, records-never}
+use Rattle.checks.proofs.Cycles.{cycles-never}
 use Rattle.formula.specs.declared.Formula.{Formula}
 use Rattle.checks.specs.declared.Finding.{Finding}
 use Rattle.checks.specs.declared.Finding.the-variants.{Clear, Refuse}
@@ -23,14 +25,26 @@ root-never : (f : File) (m : Formula) → Never (rootRows f m) Clear
 unfolding rootRows
 root-never f m = (refuses _, (refuses _, tt))
 
+-- what stands after the records
+abbrev pub graphRows : File → Formula → Rows
+graphRows f m = cycleRows (graphOf f m) (m .count) 0 ++ rootRows f m
+
+graph-never : (f : File) (m : Formula) → Never (graphRows f m) Clear
+graph-never f m =
+    never-append (cycleRows (graphOf f m) (m .count) 0) (rootRows f m) Clear (cycles-never (graphOf f m) (m .count) 0) (root-never f m)
+
 body-never : (f : File) (m : Formula) → Never (bodyRows f m) Clear
 unfolding bodyRows
-body-never f m = never-append (recordRows f m (m .count) 0) (rootRows f m) Clear (records-never f m (m .count) 0) (root-never f m)
+body-never f m = never-append (recordRows f m (m .count) 0) (graphRows f m) Clear (records-never f m (m .count) 0) (graph-never f m)
 
 -- every row refuses
 pub checks-never : (f : File) → Never (checks f) Clear
 unfolding checks
 checks-never f = never-append (headRows f) (bodyRows f (formulaOf f)) Clear (head-never f) (body-never f (formulaOf f))
+
+unfoldable pub findingNumber : Finding → ℕ
+findingNumber Clear = 0
+findingNumber (Refuse r) = numberOf r
 
 unfoldable numberIn : Answer → ℕ
 numberIn (accepted m) = 0

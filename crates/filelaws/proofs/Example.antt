@@ -4,10 +4,11 @@ use mathlib.Core.Path.{_≡_, refl}
 use mathlib.Core.List.{List, [], _∷_, _++_}
 use Rattle.laws.specs.Rows.{first}
 use Rattle.symbols.specs.Graph.{constant, input, binary}
+use Rattle.symbols.specs.Reaching.{reachesBelow, reaches}
 use Rattle.symbols.specs.declared.BVOperator.the-variants.{Add, Equals}
 use Rattle.formula.specs.File.{File, le32, le64, zeros, trailerOf, formulaOf, recordAt}
 use Rattle.formula.specs.Graph.{kindNo, graphOf}
-use Rattle.checks.specs.Refusals.{headRows, rowsOf, recordRows, rootRows, bodyRows, checks, accepted, refused, verdict}
+use Rattle.checks.specs.Refusals.{headRows, rowsOf, recordRows, cycleRows, rootRows, bodyRows, checks, accepted, refused, verdict}
 use Rattle.formula.specs.declared.Formula.{Formula}
 
 -- sixteen bytes: four small numbers, little endian
@@ -23,18 +24,33 @@ abbrev there : ℕ → Formula
 there n = record { first = n; count = 5; root = record { 0 = 4 } }
 
 pub example-accepted : verdict (written 1 []) ≡ accepted (there 0)
-unfolding verdict checks headRows bodyRows recordRows rowsOf rootRows formulaOf trailerOf recordAt graphOf kindNo le32 le64 zeros first
+unfolding verdict checks headRows bodyRows recordRows rowsOf cycleRows rootRows reaches reachesBelow formulaOf trailerOf recordAt graphOf kindNo le32 le64 zeros first
 example-accepted = refl
 
 -- the same after a note of three bytes
 pub example-noted : verdict (written 1 (7 ∷ 8 ∷ 9 ∷ [])) ≡ accepted (there 3)
-unfolding verdict checks headRows bodyRows recordRows rowsOf rootRows formulaOf trailerOf recordAt graphOf kindNo le32 le64 zeros first
+unfolding verdict checks headRows bodyRows recordRows rowsOf cycleRows rootRows reaches reachesBelow formulaOf trailerOf recordAt graphOf kindNo le32 le64 zeros first
 example-noted = refl
 
+-- Q-1: an operand with a higher id
+pub example-any-order : verdict (written 3 []) ≡ accepted (there 0)
+unfolding verdict checks headRows bodyRows recordRows rowsOf cycleRows rootRows reaches reachesBelow formulaOf trailerOf recordAt graphOf kindNo le32 le64 zeros first
+example-any-order = refl
+
+-- "5 now means an operand id not below n"
+pub example-outside : verdict (written 5 []) ≡ refused 5 (2 ∷ [])
+unfolding verdict checks headRows bodyRows recordRows rowsOf cycleRows rootRows reaches reachesBelow formulaOf trailerOf recordAt graphOf kindNo le32 le64 zeros first
+example-outside = refl
+
 -- node 2 as its own operand
-pub example-refused : verdict (written 2 []) ≡ refused 5 (2 ∷ [])
-unfolding verdict checks headRows bodyRows recordRows rowsOf rootRows formulaOf trailerOf recordAt graphOf kindNo le32 le64 zeros first
-example-refused = refl
+pub example-own : verdict (written 2 []) ≡ refused 13 (2 ∷ [])
+unfolding verdict checks headRows bodyRows recordRows rowsOf cycleRows rootRows reaches reachesBelow formulaOf trailerOf recordAt graphOf kindNo le32 le64 zeros first
+example-own = refl
+
+-- nodes 2 and 4 as each other's: "the lowest id that reaches itself"
+pub example-lowest : verdict (written 4 []) ≡ refused 13 (2 ∷ [])
+unfolding verdict checks headRows bodyRows recordRows rowsOf cycleRows rootRows reaches reachesBelow formulaOf trailerOf recordAt graphOf kindNo le32 le64 zeros first
+example-lowest = refl
 
 pub example-nodes : (graphOf (written 1 []) (there 0) .node 0 ≡ input 40) × (graphOf (written 1 []) (there 0) .node 1 ≡ constant 3)
     × (graphOf (written 1 []) (there 0) .node 2 ≡ binary Add 0 1) × (graphOf (written 1 []) (there 0) .node 4 ≡ binary Equals 2 3)

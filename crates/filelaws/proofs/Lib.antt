@@ -3,6 +3,7 @@ pub mod Places
 pub mod Numbers
 pub mod Meanings
 pub mod Accepted
+pub mod Sorted
 pub mod Notes
 pub mod Nodes
 pub mod Example

@@ -1,45 +1,27 @@
 -- What the conditions of the table say: each test holds exactly when the paper's words do. Assumes nothing.
 use Prim.Native.Nat.{ℕ, zero, suc, _+_, _-_, _%_, _≤_, _<_}
 use mathlib.Core.Path.{_≡_, refl, sym, ap, _∙_}
-use mathlib.Core.Bool.{Bool, true, false, not, _&&_, _||_, true≢false}
+use mathlib.Core.Bool.{true, false, not, true≢false}
 use mathlib.Core.Logic.{_↔_, _⊎_, inl, inr, ⊎-elim}
 use native.Mathlib.Omega.{arith}
 use native.Mathlib.Decide.{ℕ-discrete}
 use lib.ListN.{length}
 use lib.Dec.{ltb, leb, eqb}
-use borrow.Author.Tests.{ltb-true, lt-ltb, leb-true, leb-false, le-leb, eqb-true, eqb-false, eq-eqb, ne-eqb, not-true}
-use Rattle.symbols.specs.Graph.{Id, Value, Node, constant, input, unary, binary, Operand}
+use borrow.Author.Tests.{ltb-true, lt-ltb, leb-true, le-leb, eqb-true, eqb-false, eq-eqb, ne-eqb, not-true}
+use Rattle.symbols.specs.Graph.{Id, Value, Node, constant, input, unary, binary}
+use Rattle.symbols.proofs.Tests.{and-yes, either}
 use Rattle.formula.specs.File.{File, Record, Place, byte, distanceOf, versionOf, lastOf, zeros}
-use Rattle.checks.specs.Refusals.{badSize, badTrailer, badSpan, unknown, clean, badRecord, disordered, fixed}
+use Rattle.checks.specs.Refusals.{badSize, badTrailer, badSpan, unknown, clean, badRecord, outside, fixed}
 use Rattle.formula.specs.Graph.{kindOf}
 use Rattle.formula.specs.declared.Kind.{Kind}
 use Rattle.formula.specs.declared.Kind.the-variants.{Constant, Input, Unary, Binary, Unknown}
 use Rattle.filelaws.specs.Faults.{OutOfOrder, FixedElsewhere}
-
--- of two tests
-pub or-yes : (a b : Bool) → ((a || b) ≡ true) ↔ ((a ≡ true) ⊎ (b ≡ true))
-or-yes true b = (λ e. inl refl, λ h. refl)
-or-yes false b = (inr, ⊎-elim (λ e. absurd (true≢false (sym e))) (λ e. e))
-
-pub or-no : (a b : Bool) → (a || b) ≡ false → (a ≡ false) × (b ≡ false)
-or-no true b e = absurd (true≢false e)
-or-no false b e = (refl, e)
-
-pub and-yes : (a b : Bool) → (a && b) ≡ true → (a ≡ true) × (b ≡ true)
-and-yes true b e = (refl, e)
-and-yes false b e = absurd (true≢false (sym e))
 
 differs : (a b : ℕ) → (not (eqb a b) ≡ true) ↔ (a ≡ b → ⊥)
 differs a b = (λ e. eqb-false a b (not-true (eqb a b) e), λ h. ap not (ne-eqb a b h))
 
 less-than : (a b : ℕ) → (ltb a b ≡ true) ↔ (a < b)
 less-than a b = (ltb-true a b, lt-ltb a b)
-
-either : {A B : Type 0} (a b : Bool) → (a ≡ true) ↔ A → (b ≡ true) ↔ B → ((a || b) ≡ true) ↔ (A ⊎ B)
-either a b p q = (
-  λ e. ⊎-elim (λ h. inl (p .0 h)) (λ h. inr (q .0 h)) (or-yes a b .0 e),
-  λ s. or-yes a b .1 (⊎-elim (λ h. inl (p .1 h)) (λ h. inr (q .1 h)) s),
-)
 
 -- "file under 16 or over 65,536 bytes"
 pub size-means : (f : File) → (badSize f ≡ true) ↔ ((length f < 16) ⊎ (65536 < length f))
@@ -60,7 +42,7 @@ zeros-from : (s : Record) (a : Place) (k : ℕ) → zeros s a k ≡ true → (j 
 unfolding zeros
 zeros-from s a zero e j p = absurd (omega arith)
 zeros-from s a (suc k) e j p =
-    let h = and-yes (zeros s a k) (eqb (byte s (a + k)) 0) e in
+    let h = and-yes (zeros s a k) (eqb (byte s (a + k)) 0) .0 e in
     elim (ℕ-discrete j k) [
       | yes w ↦ ap (λ (x : ℕ). byte s (a + x)) w ∙ eqb-true (byte s (a + k)) 0 (h .1)
       | no w ↦ zeros-from s a k (h .0) j (omega arith)
@@ -75,30 +57,22 @@ zeros-to s a (suc k) h = rw (zeros-to s a k (λ j p. h j (omega arith)), eq-eqb 
 pub zeros-means : (s : Record) (a : Place) (k : ℕ) → (zeros s a k ≡ true) ↔ ((j : ℕ) → j < k → byte s (a + j) ≡ 0)
 zeros-means s a k = (zeros-from s a k, zeros-to s a k)
 
--- "an operand id not below its own"
-pub ordered-means : (i j : Id) (n : Node) → disordered i n ≡ false → Operand n j → j < i
-ordered-means i j (constant v) e h = absurd h
-ordered-means i j (input l) e h = absurd h
-ordered-means i j (unary a) e h = let b = leb-false i a e in omega arith
-ordered-means i j (binary o a b) e h =
-    let w = or-no (leb i a) (leb i b) e in
-    ⊎-elim (λ q. let x = leb-false i a (w .0) in omega arith) (λ q. let x = leb-false i b (w .1) in omega arith) h
-
 constant-value : (v w : Value) → constant v ≡ constant w → v ≡ w
 constant-value v w e = cc
 
-high : (i a : Id) → (leb i a ≡ true) ↔ (i ≤ a)
-high i a = (leb-true i a, le-leb i a)
+high : (n : ℕ) (a : Id) → (leb n a ≡ true) ↔ (n ≤ a)
+high n a = (leb-true n a, le-leb n a)
 
-pub order-means : (i : Id) (n : Node) → (disordered i n ≡ true) ↔ OutOfOrder i n
-order-means i (constant v) = (λ e. absurd (true≢false (sym e)), λ h. absurd (h .named))
-order-means i (input l) = (λ e. absurd (true≢false (sym e)), λ h. absurd (h .named))
-order-means i (unary a) = (
-  λ e. record { operand = a; named = refl; high = leb-true i a e },
-  λ h. le-leb i a (let x = h .named in let y = h .high in omega arith),
+-- Q-1: "5 now means an operand id not below n"
+pub order-means : (n : ℕ) (x : Node) → (outside n x ≡ true) ↔ OutOfOrder n x
+order-means n (constant v) = (λ e. absurd (true≢false (sym e)), λ h. absurd (h .named))
+order-means n (input l) = (λ e. absurd (true≢false (sym e)), λ h. absurd (h .named))
+order-means n (unary a) = (
+  λ e. record { operand = a; named = refl; high = leb-true n a e },
+  λ h. le-leb n a (let x = h .named in let y = h .high in omega arith),
 )
-order-means i (binary o a b) =
-    let w = either (leb i a) (leb i b) (high i a) (high i b) in (
+order-means n (binary o a b) =
+    let w = either (leb n a) (leb n b) (high n a) (high n b) in (
       λ e.
           ⊎-elim
           (λ p. record { operand = a; named = inl refl; high = p })

@@ -1,13 +1,13 @@
--- The faults of a node, in the paper's words. Assumes nothing.
-use Prim.Native.Nat.{_≤_}
+-- The faults of a node, in the papers' words. Assumes nothing.
+use Prim.Native.Nat.{ℕ, _≤_}
 use mathlib.Core.Path.{_≡_}
 use Rattle.symbols.specs.Graph.{Id, Value, Node, constant, Operand}
 
--- "an operand id not below its own"
-pub record OutOfOrder (i : Id) (n : Node) : Type 0 where
+-- Q-1: "an operand id not below n"
+pub record OutOfOrder (n : ℕ) (x : Node) : Type 0 where
   pub operand : Id
-  pub named : Operand n operand
-  pub high : i ≤ operand
+  pub named : Operand x operand
+  pub high : n ≤ operand
 
 -- "a constant other than 1"
 pub record FixedElsewhere (n : Node) : Type 0 where
