@@ -1,2 +1,3 @@
 pub mod Laws
+pub mod Along
 pub mod Passes

@@ -1,11 +1,12 @@
 -- Document 01, "Choice, round, search": "Start: each non-constant id, upward, takes a word; then operators are worked out from their
 -- operands." Assumes nothing.
 use Prim.Native.Nat.{ℕ, zero, suc, _+_}
+use mathlib.Core.List.{List}
 use lib.ListN.{getD, set, replicate}
 use Rattle.words.specs.Words.{Words, Place}
 use Rattle.symbols.specs.Graph.{Id, Value, Node, constant, input, unary, binary, Graph}
 use Rattle.search.specs.Machine.{Values}
-use Rattle.assign.specs.Settle.{settle}
+use Rattle.assign.specs.Settle.{settle, along}
 
 -- "each non-constant id … takes a word"
 abbrev pub takes : Node → ℕ
@@ -41,6 +42,10 @@ givenUpTo g ws (suc k) vs = set (givenUpTo g ws k vs) k (firstOf g ws k)
 -- what the start makes of a list of values
 unfoldable pub startFrom : Graph → Words → Values → Values
 startFrom g ws vs = settle g (givenUpTo g ws (g .count) vs)
+
+-- the same with one pass along an order
+unfoldable pub startAlong : Graph → List Id → Words → Values → Values
+startAlong g order ws vs = along g order (givenUpTo g ws (g .count) vs)
 
 -- the start: what a list as long as the graph held before does not matter
 unfoldable pub startOf : Graph → Words → Values

@@ -1,5 +1,5 @@
-// The values of all nodes: the start, and the upward pass that works every operator out from its operands. No function here has
-// a `requires`.
+// The values of all nodes: the start, and the pass that works every operator out, along a lent order in which operands come
+// first. No function here has a `requires`.
 use bitvec::BitVector;
 use formula::Formula;
 use formula::Node;
@@ -10,8 +10,9 @@ ghost use Prim.Native.Nat.{_≤_};
 ghost use lib.ListN.{getD, set};
 ghost use Rattle.symbols.specs.Operators.{apply};
 ghost use Rattle.formula.specs.Graph.{graphOf, nodeIs};
-ghost use Rattle.assign.specs.Settle.{worked, settle};
-ghost use Rattle.assign.specs.Start.{firstBy, givenUpTo, startFrom};
+ghost use Rattle.search.specs.Machine.{valueOf};
+ghost use Rattle.assign.specs.Settle.{worked, along};
+ghost use Rattle.assign.specs.Start.{firstBy, givenUpTo, startAlong};
 ghost use Rattle.assign.specs.Start as start;
 
 // A node's value; of an id that has none, 0.
@@ -54,7 +55,7 @@ pub fn evaluate(op: BVOperator, x: BitVector, y: BitVector) -> BitVector
 
 // A node's value from those of its operands; a leaf's is the one it has.
 pub fn work_out(n: Node, id: SymbolId, values: &[u64]) -> BitVector
-    ensures { λ r. ⌜ r .0 ≡ worked (nodeIs n) (id .0) (now (values .entry)) ⌝ }
+    ensures { λ r. ⌜ r .0 ≡ worked (nodeIs n) (getD (now (values .entry)) (id .0) 0) (valueOf (now (values .entry))) ⌝ }
 {
     match n {
         Node::Constant(v) => value_at(values, id),
@@ -64,26 +65,46 @@ pub fn work_out(n: Node, id: SymbolId, values: &[u64]) -> BitVector
     }
 }
 
-// Every operator, in one upward pass: the source follows the dependents of each changed node, to the same end state.
-pub fn propagate_assignment(file: &[u8], m: Formula, values: &mut [u64])
-    ensures { λ _. ⌜ now (values .exit) ≡ settle (graphOf (now (file .entry)) m) (now (values .entry)) ⌝ }
+// The node at a place of the order; past the end, node 0.
+fn id_at(order: &[u32], at: u32) -> SymbolId
+    ensures { λ r. ⌜ r .0 ≡ getD (now (order .entry)) at 0 ⌝ }
+{
+    let i = at as usize;
+    if i < order.len() {
+        SymbolId(order[i])
+    } else {
+        SymbolId(0)
+    }
+}
+
+// Every operator, in one pass along the order: the source follows the dependents of each changed node, to the same end state.
+pub fn propagate_assignment(file: &[u8], m: Formula, order: &[u32], values: &mut [u64])
+    ensures { λ _. ⌜ now (values .exit) ≡ along (graphOf (now (file .entry)) m) (now (order .entry)) (now (values .entry)) ⌝ }
 {
     let n = m.count;
-    let mut i: u32 = 0;
-    while i < n {
-        let node = formula::node_at(file, m, SymbolId(i));
-        let v = work_out(node, SymbolId(i), values);
-        store(values, SymbolId(i), v);
-        i += 1;
+    let mut k: u32 = 0;
+    while k < n {
+        let id = id_at(order, k);
+        let node = formula::node_at(file, m, id);
+        let v = work_out(node, id, values);
+        store(values, id, v);
+        k += 1;
     }
 }
 
 // Stores an input's value and works every operator out again.
-pub fn update_assignment(file: &[u8], m: Formula, values: &mut [u64], n: SymbolId, v: BitVector)
-    ensures { λ _. ⌜ now (values .exit) ≡ settle (graphOf (now (file .entry)) m) (set (now (values .entry)) (n .0) (v .0)) ⌝ }
+pub fn update_assignment(
+    file: &[u8],
+    m: Formula,
+    order: &[u32],
+    values: &mut [u64],
+    n: SymbolId,
+    v: BitVector,
+)
+    ensures { λ _. ⌜ now (values .exit) ≡ along (graphOf (now (file .entry)) m) (now (order .entry)) (set (now (values .entry)) (n .0) (v .0)) ⌝ }
 {
     store(values, n, v);
-    propagate_assignment(file, m, values);
+    propagate_assignment(file, m, order, values);
 }
 
 // The words that a node takes at the start.
@@ -153,9 +174,9 @@ fn give(file: &[u8], m: Formula, words: &[u64], values: &mut [u64])
 }
 
 // The start. It takes `wanted` words; where there are fewer, 0 stands for each that is missing.
-pub fn initialize_ab(file: &[u8], m: Formula, words: &[u64], values: &mut [u64])
-    ensures { λ _. ⌜ now (values .exit) ≡ startFrom (graphOf (now (file .entry)) m) (now (words .entry)) (now (values .entry)) ⌝ }
+pub fn initialize_ab(file: &[u8], m: Formula, order: &[u32], words: &[u64], values: &mut [u64])
+    ensures { λ _. ⌜ now (values .exit) ≡ startAlong (graphOf (now (file .entry)) m) (now (order .entry)) (now (words .entry)) (now (values .entry)) ⌝ }
 {
     give(file, m, words, values);
-    propagate_assignment(file, m, values);
+    propagate_assignment(file, m, order, values);
 }

@@ -14,9 +14,9 @@ use Rattle.symbols.specs.declared.OperandSide.{OperandSide}
 use Rattle.symbols.specs.declared.OperandSide.the-variants.{Lhs, Rhs}
 use Rattle.symbols.specs.declared.BVOperator.{BVOperator}
 use Rattle.search.specs.Machine as machine
-use Rattle.search.specs.Machine.{Values, valueOf, byNot, inverse, consistent, Step, to, dry, Play}
+use Rattle.search.specs.Machine.{Values, valueOf, byNot, inverse, consistent, Step, to, dry, Play, withRedo}
 use Rattle.rules.specs.Rules.{Rules, Got, tookInverse, tookConsistent, stuck, valueAt}
-use Rattle.assign.specs.Settle.{settle}
+use Rattle.assign.specs.Settle.{settle, along}
 use Rattle.monster.specs.declared.Selected.{Selected}
 use Rattle.monster.specs.declared.Selected.the-variants as selected
 use Rattle.monster.specs.declared.Choice.{Choice}
@@ -93,6 +93,10 @@ hereOf ρ g vs = record { rules = ρ; graph = g; vals = vs }
 -- the search is over this play
 abbrev pub playOf : Rules → Graph → Words → Play
 playOf ρ g ws = record { graph = g; redo = settle g; step = λ vs i t n. stepFrom (hereOf ρ g vs) ws i t n }
+
+-- the same with one pass along an order: what code plays that was lent one
+abbrev pub playAlong : Rules → Graph → List Id → Words → Play
+playAlong ρ g order ws = withRedo (playOf ρ g ws) (along g order)
 
 -- the code's answers in these terms
 abbrev pub wayOf : Selected → Way

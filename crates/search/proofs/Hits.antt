@@ -7,13 +7,14 @@ use mathlib.Core.List.{List, [], _∷_}
 use native.Mathlib.Omega.{arith}
 use Rattle.bitvec.specs.Word.{isZero}
 use Rattle.symbols.specs.Graph.{Id, Value, Node, constant, input, unary, binary, Graph, Operand}
+use Rattle.symbols.specs.Order.{Acyclic}
 use Rattle.symbols.specs.Operators.{bySide, apply, applyAt}
 use Rattle.symbols.specs.declared.OperandSide.{OperandSide}
 use Rattle.symbols.specs.declared.OperandSide.the-variants.{Lhs, Rhs}
 use Rattle.symbols.specs.declared.BVOperator.{BVOperator}
 use Rattle.search.specs.Machine.{Choice, loses, stores, walks, landing}
 use Rattle.search.specs.Round.{Taken}
-use Rattle.search.specs.Solution.{Right, Solution, Acyclic}
+use Rattle.search.specs.Solution.{Right, Solution}
 use Rattle.search.specs.Demand.{All, more, FalseKinds, sideOf, passedBy, TookInverse, NotFalse, Free, PassedFree}
 use Rattle.search.specs.Lawful.{Leads}
 

@@ -8,6 +8,7 @@ pub mod Hits
 pub mod Rounds
 pub mod Results
 pub mod Longer
+pub mod Alike
 pub mod Toy
 pub mod ToyLaws
 pub mod Witness

@@ -13,7 +13,7 @@ use borrow.Author.Tests.{ltb-true, eq-eqb, ne-eqb}
 use Rattle.laws.specs.Pick.{pick}
 use Rattle.bitvec.specs.Word.{isZero}
 use Rattle.words.specs.Words.{Words, Place}
-use Rattle.symbols.specs.Graph.{Id, Value, Node, constant, input, unary, binary, Operand, Ordered}
+use Rattle.symbols.specs.Graph.{Id, Value, Node, constant, input, unary, binary, Operand, Sorted}
 use Rattle.symbols.specs.Operators.{bySide, apply, applyAt}
 use Rattle.symbols.specs.declared.OperandSide.{OperandSide}
 use Rattle.symbols.specs.declared.OperandSide.the-variants.{Lhs, Rhs}
@@ -23,7 +23,7 @@ use Rattle.search.specs.Machine.{Values, valueOf, Choice, inverse, consi
 use Rattle.search.specs.Lawful.{Redone, Redoes, Led, Lawful, placeAfter, Forward}
 use Rattle.search.proofs.Toy.{inverseValue, FalseAt, kinds, sideBy, valueStep, nodeIn, stepBy, nodeValue, passFrom, toy, low, sorted}
 use Rattle.search.proofs.Bounds.{bit-below, pick-below}
-use Rattle.search.proofs.Unique.{ordered-acyclic}
+use Rattle.search.proofs.Unique.{sorted-acyclic}
 
 -- the operators, upward
 pub pass-length : (ns : List Node) (i : Id) (vs : Values) → length (passFrom ns i vs) ≡ length vs
@@ -184,7 +184,7 @@ node-led ns ws (binary o a b) vs t m x u n c l f e =
     (λ q. value-led (valueOf vs) t l x u n c o d a b (getD ws m 0) m (eqb (getD ws m 0) 0) (side-below (valueOf vs) d a b (f a (inl refl)) (f b (inr refl))) q) e
 
 module _ (ns : List Node) (root : Id) (ws : Words) (up : sorted ns 0 ≡ true) (rooted : root < length ns) (fixed : (c : Value) → nodeIn ns root ≡ constant c → c ≡ 1) where
-  ordered : Ordered (toy ns root ws .graph)
+  ordered : Sorted (toy ns root ws .graph)
   ordered = record { below = λ i j b o. omega (arith, sorted-operand ns 0 up i j b o); rooted = rooted }
 
   redoes : Redoes (toy ns root ws)
@@ -196,7 +196,7 @@ module _ (ns : List Node) (root : Id) (ws : Words) (up : sorted ns 0 ≡ true) (
   -- any sorted list of nodes
   pub toy-lawful : Lawful kinds (toy ns root ws)
   toy-lawful = record {
-    acyclic = ordered-acyclic (toy ns root ws .graph) ordered;
+    acyclic = sorted-acyclic (toy ns root ws .graph) ordered;
     rooted = rooted;
     fixed = fixed;
     redoes = redoes;

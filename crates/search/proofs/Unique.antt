@@ -9,17 +9,18 @@ use lib.ListN.{set, length-set}
 use lib.Dec.{eqb}
 use lib.Seq.{getD-set-same, getD-set-other, ext-getD}
 use Rattle.bitvec.specs.Word.{isZero}
-use Rattle.symbols.specs.Graph.{Id, Value, Node, constant, input, unary, binary, Graph, Operand, direct, through, Ordered}
+use Rattle.symbols.specs.Graph.{Id, Value, Node, constant, input, unary, binary, Graph, Operand, direct, through, Sorted}
+use Rattle.symbols.specs.Order.{Acyclic}
 use Rattle.symbols.specs.Operators.{apply}
 use Rattle.search.specs.Machine.{Values, valueOf, Play}
-use Rattle.search.specs.Solution.{Input, Right, Solution, Sane, Primed, Acyclic}
+use Rattle.search.specs.Solution.{Input, Right, Solution, Sane, Primed}
 use Rattle.search.specs.Demand.{Free}
 use Rattle.search.specs.Lawful.{Redone, Redoes}
 use Rattle.search.proofs.Bounds.{bit-below, apply-below}
 
 -- where an operand's id is below its node's, the id is a rank
-pub ordered-acyclic : (g : Graph) → Ordered g → Acyclic g
-ordered-acyclic g h = record { rank = λ i. i; inside = λ i j b o. omega (arith, h .below i j b o); falls = h .below }
+pub sorted-acyclic : (g : Graph) → Sorted g → Acyclic g
+sorted-acyclic g h = record { rank = λ i. i; bounded = λ i b. b; inside = λ i j b o. omega (arith, h .below i j b o); falls = h .below }
 
 module _ (v w : Id → Value) where
   same : (n : Node) (i : Id) → ((j : Id) → Operand n j → w j ≡ v j) → (Input n → w i ≡ v i) → Right n v i → Right n w i → w i ≡ v i

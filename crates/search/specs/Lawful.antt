@@ -6,9 +6,10 @@ use lib.ListN.{length}
 use Rattle.bitvec.specs.Word.{isZero}
 use Rattle.words.specs.Words.{Place}
 use Rattle.symbols.specs.Graph.{Id, Value, Node, constant, input, unary, binary}
+use Rattle.symbols.specs.Order.{Acyclic}
 use Rattle.symbols.specs.Operators.{apply, applyAt}
 use Rattle.search.specs.Machine.{Values, valueOf, Choice, Step, to, dry, Play}
-use Rattle.search.specs.Solution.{Sane, Acyclic}
+use Rattle.search.specs.Solution.{Sane}
 use Rattle.search.specs.Demand.{FalseKinds, sideOf, sought, passedBy, Inverse}
 
 -- node i, worked out again from the values v to the values w: a leaf is kept, an operator is right

@@ -35,6 +35,10 @@ pub record Play : Type 0 where
   -- one step by the values, at a node with its target, with the next word's place
   pub step : Values → Id → Value → Place → Step
 
+-- the same with another way of working the operators out
+abbrev pub withRedo : Play → (Values → Values) → Play
+withRedo P f = record { graph = P .graph; redo = f; step = P .step }
+
 -- where the search stands: a node, its target, the next word's place; "rounds completed, lost ones among them, steps completed"
 pub record St : Type 0 where
   pub node : Id

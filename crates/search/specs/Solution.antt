@@ -1,9 +1,9 @@
 -- What it is for values to solve a graph: "constants kept, every operator right". Assumes nothing.
-use Prim.Native.Nat.{ℕ, _^_, _<_}
+use Prim.Native.Nat.{_^_, _<_}
 use mathlib.Core.Path.{_≡_}
 use lib.ListN.{length}
 use Rattle.bitvec.specs.Word.{isZero}
-use Rattle.symbols.specs.Graph.{Id, Value, Node, constant, input, unary, binary, Graph, Operand}
+use Rattle.symbols.specs.Graph.{Id, Value, Node, constant, input, unary, binary, Graph}
 use Rattle.symbols.specs.Operators.{apply}
 use Rattle.search.specs.Machine.{Values, valueOf}
 
@@ -34,9 +34,3 @@ pub record Primed (g : Graph) (vs : Values) : Type 0 where
   pub long : length vs ≡ g .count
   pub below : (i : Id) → i < g .count → valueOf vs i < 2 ^ 64
   pub constants : (i : Id) (c : Value) → i < g .count → g .node i ≡ constant c → valueOf vs i ≡ c
-
--- operands are nodes, and a rank falls along them: where an operand's id is below its node's, the id itself
-pub record Acyclic (g : Graph) : Type 0 where
-  pub rank : Id → ℕ
-  pub inside : (i j : Id) → i < g .count → Operand (g .node i) j → j < g .count
-  pub falls : (i j : Id) → i < g .count → Operand (g .node i) j → rank j < rank i

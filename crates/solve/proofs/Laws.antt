@@ -2,6 +2,7 @@
 use mathlib.Core.Path.{_≡_, refl, sym, ap, _∙_}
 use Prim.Native.Nat.{ℕ, _≤_, _<_}
 use mathlib.Core.Bool.{false, not}
+use mathlib.Core.List.{List}
 use native.Mathlib.Omega.{arith}
 use lib.ListN.{length}
 use lib.Dec.{eqb}
@@ -9,7 +10,8 @@ use borrow.Author.Tests.{eq-eqb, ne-eqb, lt-ltb, le-ltb}
 use Rattle.laws.specs.Rows.{first}
 use Rattle.laws.proofs.Rows.{first-here, first-next, first-none}
 use Rattle.words.specs.Words.{Words}
-use Rattle.symbols.specs.Graph.{Graph}
+use Rattle.symbols.specs.Graph.{Id, Graph, Inside}
+use Rattle.symbols.specs.Order.{Arranged}
 use Rattle.symbols.specs.declared.Refusal.{Refusal}
 use Rattle.symbols.specs.declared.Refusal.the-variants as refusal
 use Rattle.formula.specs.File.{File}
@@ -21,11 +23,15 @@ use Rattle.checks.specs.declared.Finding.{Finding}
 use Rattle.checks.specs.declared.Finding.the-variants.{Clear, Refuse}
 use Rattle.checks.specs.declared.Checked.{Checked}
 use Rattle.checks.specs.declared.Checked.the-variants as checked
+use Rattle.filelaws.proofs.Accepted.{accepted-well-formed}
 use Rattle.search.specs.Machine.{Values, searchOf}
+use Rattle.search.proofs.Alike.{search-alike}
 use Rattle.rules.specs.Rules.{Rules}
-use Rattle.assign.specs.Start.{wanted, startFrom, startOf}
-use Rattle.assign.proofs.Laws.{start-any}
-use Rattle.monster.specs.Step.{playOf}
+use Rattle.assign.specs.Settle.{along}
+use Rattle.assign.specs.Start.{wanted, startAlong, startOf}
+use Rattle.assign.proofs.Laws.{settle-length, start-any, start-length}
+use Rattle.assign.proofs.Along.{along-is, start-along}
+use Rattle.monster.specs.Step.{playOf, playAlong}
 use Rattle.turns.specs.declared.Outcome.{Outcome}
 use Rattle.turns.specs.Turn.{outOf}
 use Rattle.solve.specs.Solve.{Result, ended, refuse, lentRows, run, onGraph, onVerdict, answer}
@@ -55,12 +61,29 @@ module _ (ρ : Rules) (f : File) (m : Formula) (ws : Words) (budget : ℕ) (vs :
     unfolding lentRows
     lent-words h = given (Refuse refusal.Words) (first-next _ _ _ _ _ row8 (first-here _ _ _ _ (lt-ltb (length ws) (wanted g) (omega arith))))
 
-    pub lent-clear : (us xs : Values) (o : Outcome) → w ≤ length ws → us ≡ startFrom g ws vs → outOf o xs ≡ searchOf (playOf ρ g ws) budget us w
-        → ended (outOf o xs) ≡ onGraph ρ g ws budget vs
-    unfolding lentRows
-    lent-clear us xs o h hu ho =
-        ap ended (ho ∙ ap (λ (y : Values). searchOf (playOf ρ g ws) budget y w) (hu ∙ start-any g ws vs (long ∙ sym count-is)) ∙ ap (searchOf (playOf ρ g ws) budget (startOf g ws)) hw)
-        ∙ given Clear (first-next _ _ _ _ _ row8 (first-next _ _ _ _ _ (le-ltb (length ws) (wanted g) (omega arith)) (first-none _)))
+    -- along the order that was found, the search is the one over all operator equations
+    module _ (order : List Id) (inside : Inside g) (arranged : Arranged g order) where
+      searched : searchOf (playAlong ρ g order ws) budget (startAlong g order ws vs) w ≡ searchOf (playOf ρ g ws) budget (startOf g ws) (wanted g)
+      searched =
+          ap (λ (us : Values). searchOf (playAlong ρ g order ws) budget us w)
+          (start-along g order inside arranged ws vs (long ∙ sym count-is) ∙ start-any g ws vs (long ∙ sym count-is))
+          ∙ search-alike (playOf ρ g ws) (along g order) (λ us l. settle-length g us) (along-is g order inside arranged) budget (startOf g ws) w (start-length g ws)
+          ∙ ap (searchOf (playOf ρ g ws) budget (startOf g ws)) hw
+
+      pub lent-clear : (us xs : Values) (o : Outcome) → w ≤ length ws → us ≡ startAlong g order ws vs → outOf o xs ≡ searchOf (playAlong ρ g order ws) budget us w
+          → ended (outOf o xs) ≡ onGraph ρ g ws budget vs
+      unfolding lentRows
+      lent-clear us xs o h hu ho =
+          ap ended (ho ∙ ap (λ (y : Values). searchOf (playAlong ρ g order ws) budget y w) hu ∙ searched)
+          ∙ given Clear (first-next _ _ _ _ _ row8 (first-next _ _ _ _ _ (le-ltb (length ws) (wanted g) (omega arith)) (first-none _)))
+
+-- what `run` asks of an accepted file and of the order that was found
+module _ (f : File) (m : Formula) (c : Checked) (e : c ≡ checked.Accepted m) where
+  pub solve-inside : answerOf c ≡ verdict f → Inside (graphOf f m)
+  solve-inside hc = accepted-well-formed f m (sym hc ∙ ap answerOf e) .inside
+
+  pub solve-arranged : (order : List Id) → ((w : Formula) → c ≡ checked.Accepted w → Arranged (graphOf f w) order) → Arranged (graphOf f m) order
+  solve-arranged order h = h m e
 
 -- by the verdict on the file
 module _ (ρ : Rules) (f : File) (ws : Words) (budget : ℕ) (vs : Values) (c : Checked) (hc : answerOf c ≡ verdict f) where

@@ -1,14 +1,14 @@
 -- The search as the code meets it: one law for each `return` and each turn of the loop. Assumes nothing.
 use mathlib.Core.Path.{_≡_, refl, sym, ap, _∙_}
 use Prim.Native.Nat.{ℕ, _+_, _-_, _≤_, _<_}
-use mathlib.Core.List.{[]}
+use mathlib.Core.List.{List, []}
 use native.Mathlib.Omega.{arith}
 use lib.ListN.{length, getD, set}
 use Rattle.bitvec.specs.declared.BitVector.{BitVector}
 use Rattle.words.specs.Words.{Words}
 use Rattle.words.specs.declared.WordSource.{WordSource}
 use Rattle.symbols.specs.Graph as graph
-use Rattle.symbols.specs.Graph.{Graph}
+use Rattle.symbols.specs.Graph.{Id, Graph}
 use Rattle.symbols.specs.declared.SymbolId.{SymbolId}
 use Rattle.symbols.specs.declared.BVOperator.{BVOperator}
 use Rattle.formula.specs.File.{File}
@@ -20,12 +20,12 @@ use Rattle.search.specs.Machine.{Values, Play, St, solved, spent, Out, Next, do
 use Rattle.search.proofs.Turns as turns
 use Rattle.search.proofs.Turns.{Few, turn-few, run-used, run-done, run-on, search-from}
 use Rattle.rules.specs.Rules.{Rules}
-use Rattle.assign.specs.Settle.{settle}
+use Rattle.assign.specs.Settle.{along}
 use Rattle.monster.specs.declared.Walk.{Walk}
 use Rattle.monster.specs.declared.Choice.{Choice}
 use Rattle.monster.specs.declared.Move.{Move}
 use Rattle.monster.specs.declared.Move.the-variants as move
-use Rattle.monster.specs.Step.{stepFrom, hereOf, playOf, stepOf}
+use Rattle.monster.specs.Step.{stepFrom, hereOf, playAlong, stepOf}
 use Rattle.turns.specs.declared.State.{State}
 use Rattle.turns.specs.declared.Outcome.{Outcome}
 use Rattle.turns.specs.declared.Turn.{Turn}
@@ -41,9 +41,9 @@ module _ (root : ℕ) (s : State) (vs : Values) (v : ℕ) (hv : v ≡ getD vs ro
   round-again e = turns.round-starts root (stOf s vs) (λ z. e (hv ∙ z))
 
 -- where a walk lands
-module _ (ρ : Rules) (f : File) (m : Formula) (s : State) (vs : Values) (q : Node) (hq : nodeIs q ≡ graphOf f m .node (s .walk .node .0)) where
+module _ (ρ : Rules) (f : File) (m : Formula) (order : List Id) (s : State) (vs : Values) (q : Node) (hq : nodeIs q ≡ graphOf f m .node (s .walk .node .0)) where
   abbrev still : Play
-  still = playOf ρ (graphOf f m) []
+  still = playAlong ρ (graphOf f m) order []
 
   abbrev Reached : Next → Type 0
   Reached x = x ≡ reached still (landingAt (graphOf f m) (stOf s vs)) (stOf s vs)
@@ -55,7 +55,7 @@ module _ (ρ : Rules) (f : File) (m : Formula) (s : State) (vs : Values) (q : No
   unfolding reached graphOf
   land-constant v x e h = lands (node.Constant v) e x h
 
-  pub land-input : (l : ℕ) (us : Values) (x : Next) → q ≡ node.Input l → us ≡ settle (graphOf f m) (set vs (s .walk .node .0) (s .walk .target .0))
+  pub land-input : (l : ℕ) (us : Values) (x : Next) → q ≡ node.Input l → us ≡ along (graphOf f m) order (set vs (s .walk .node .0) (s .walk .target .0))
       → x ≡ round (m .root .0) record { node = s .walk .node .0; target = s .walk .target .0; place = s .walk .source .at; rounds = s .rounds + 1; lost = s .lost; steps = s .steps; vals = us }
       → Reached x
   unfolding reached graphOf
@@ -75,20 +75,20 @@ module _ (ρ : Rules) (f : File) (m : Formula) (s : State) (vs : Values) (q : No
   land-binary o a b e = lands (node.Binary o a b) e _ refl
 
 -- where a walk lands the words do not matter
-wordless : (ρ : Rules) (g : Graph) (ws : Words) (l : Landing) (s : St) → reached (playOf ρ g []) l s ≡ reached (playOf ρ g ws) l s
+wordless : (ρ : Rules) (g : Graph) (order : List Id) (ws : Words) (l : Landing) (s : St) → reached (playAlong ρ g order []) l s ≡ reached (playAlong ρ g order ws) l s
 unfolding reached
-wordless ρ g ws stores s = refl
-wordless ρ g ws loses s = refl
-wordless ρ g ws walks s = refl
+wordless ρ g order ws stores s = refl
+wordless ρ g order ws loses s = refl
+wordless ρ g order ws walks s = refl
 
 -- a turn: p is the move that the step answered
-module _ (ρ : Rules) (g : Graph) (ws : Words) (s : State) (vs : Values) (p : Move)
+module _ (ρ : Rules) (g : Graph) (order : List Id) (ws : Words) (s : State) (vs : Values) (p : Move)
     (hp : stepOf p ≡ stepFrom (hereOf ρ g vs) ws (s .walk .node .0) (s .walk .target .0) (s .walk .source .at)) where
-  took : (z : Move) → p ≡ z → stepped (playOf ρ g ws) (stOf s vs) (stepOf z) ≡ turnOf (playOf ρ g ws) (stOf s vs)
+  took : (z : Move) → p ≡ z → stepped (playAlong ρ g order ws) (stOf s vs) (stepOf z) ≡ turnOf (playAlong ρ g order ws) (stOf s vs)
   unfolding turnOf
-  took z e = ap (stepped (playOf ρ g ws) (stOf s vs)) (ap stepOf (sym e) ∙ hp)
+  took z e = ap (stepped (playAlong ρ g order ws) (stOf s vs)) (ap stepOf (sym e) ∙ hp)
 
-  pub turn-dry : (a : WordSource) → p ≡ move.Dry a → done (dries (stOf s vs) (a .at)) ≡ turnOf (playOf ρ g ws) (stOf s vs)
+  pub turn-dry : (a : WordSource) → p ≡ move.Dry a → done (dries (stOf s vs) (a .at)) ≡ turnOf (playAlong ρ g order ws) (stOf s vs)
   unfolding stepped
   turn-dry a e = took (move.Dry a) e
 
@@ -96,9 +96,9 @@ module _ (ρ : Rules) (g : Graph) (ws : Words) (s : State) (vs : Values) (p : Mo
     abbrev there : St
     there = moved (stOf s vs) (w .node .0) (w .target .0) (w .source .at)
 
-    pub turn-to : (x : Next) → x ≡ reached (playOf ρ g []) (landingAt g there) there → x ≡ turnOf (playOf ρ g ws) (stOf s vs)
+    pub turn-to : (x : Next) → x ≡ reached (playAlong ρ g order []) (landingAt g there) there → x ≡ turnOf (playAlong ρ g order ws) (stOf s vs)
     unfolding stepped
-    turn-to x h = h ∙ wordless ρ g ws (landingAt g there) there ∙ took (move.To w c) e
+    turn-to x h = h ∙ wordless ρ g order ws (landingAt g there) there ∙ took (move.To w c) e
 
 -- the loop: e is the result of the whole
 pub turns-begin : (P : Play) (budget : ℕ) (s : St) → runFrom P (budget - 0) s ≡ runFrom P budget s
@@ -138,9 +138,9 @@ module _ (P : Play) (budget : ℕ) (s : State) (vs : Values) (e : Out) (inv : ru
   turns-spent h = sym (run-used P budget (stOf s vs) h) ∙ inv
 
 -- the search, by what the root is
-module _ (ρ : Rules) (f : File) (m : Formula) (ws : Words) (budget : ℕ) (vs : Values) (n : ℕ) (v : ℕ) (hv : v ≡ getD vs (m .root .0) 0) where
+module _ (ρ : Rules) (f : File) (m : Formula) (order : List Id) (ws : Words) (budget : ℕ) (vs : Values) (n : ℕ) (v : ℕ) (hv : v ≡ getD vs (m .root .0) 0) where
   abbrev P : Play
-  P = playOf ρ (graphOf f m) ws
+  P = playAlong ρ (graphOf f m) order ws
 
   abbrev here : St
   here = begin (m .root .0) vs n
@@ -159,7 +159,7 @@ module _ (ρ : Rules) (f : File) (m : Formula) (ws : Words) (budget : ℕ) (vs :
     unfolding fromRoot
     search-constant c e = rooted (node.Constant c) e _ refl
 
-    pub search-input : (l : ℕ) (us : Values) → q ≡ node.Input l → us ≡ settle (graphOf f m) (set vs (m .root .0) 1)
+    pub search-input : (l : ℕ) (us : Values) → q ≡ node.Input l → us ≡ along (graphOf f m) order (set vs (m .root .0) 1)
         → record { end = solved; rounds = 1; lost = 0; steps = 0; words = n; vals = us } ≡ searchOf P budget vs n
     unfolding fromRoot
     search-input l us e h =

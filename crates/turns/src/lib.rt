@@ -12,7 +12,7 @@ ghost use Prim.Native.Nat.{_≤_, _<_};
 ghost use Rattle.formula.specs.Graph.{graphOf};
 ghost use Rattle.search.specs.Machine.{round, landingAt, reached, turnOf, runFrom, begin, searchOf};
 ghost use Rattle.rules.specs.One.{one};
-ghost use Rattle.monster.specs.Step.{playOf};
+ghost use Rattle.monster.specs.Step.{playAlong};
 ghost use Rattle.turns.specs.Turn.{stOf, outOf, nextOf};
 
 // Where the search stands, with the rounds completed, the lost ones among them, and the steps completed.
@@ -72,9 +72,9 @@ fn next_round(values: &[u64], root: SymbolId, s: State) -> Turn
 }
 
 // What reaching a node means. No words are taken, so those of the play do not matter.
-fn land(file: &[u8], m: Formula, values: &mut [u64], s: State) -> Turn
+fn land(file: &[u8], m: Formula, order: &[u32], values: &mut [u64], s: State) -> Turn
     requires { ⌜ (s .rounds < 0xffff_ffff) × (s .lost < 0xffff_ffff) ⌝ }
-    ensures { λ r. ⌜ nextOf r (now (values .exit)) ≡ reached (playOf one (graphOf (now (file .entry)) m) []) (landingAt (graphOf (now (file .entry)) m) (stOf s (now (values .entry)))) (stOf s (now (values .entry))) ⌝ }
+    ensures { λ r. ⌜ nextOf r (now (values .exit)) ≡ reached (playAlong one (graphOf (now (file .entry)) m) (now (order .entry)) []) (landingAt (graphOf (now (file .entry)) m) (stOf s (now (values .entry)))) (stOf s (now (values .entry))) ⌝ }
 {
     let walk = s.walk;
     let id = walk.node;
@@ -91,7 +91,7 @@ fn land(file: &[u8], m: Formula, values: &mut [u64], s: State) -> Turn
         ),
         Node::Input(l) => {
             let t = walk.target;
-            assign::update_assignment(file, m, values, id, t);
+            assign::update_assignment(file, m, order, values, id, t);
             next_round(
                 values,
                 m.root,
@@ -108,15 +108,23 @@ fn land(file: &[u8], m: Formula, values: &mut [u64], s: State) -> Turn
     }
 }
 
-fn take_turn(file: &[u8], m: Formula, words: &[u64], values: &mut [u64], s: State) -> Turn
+fn take_turn(
+    file: &[u8],
+    m: Formula,
+    order: &[u32],
+    words: &[u64],
+    values: &mut [u64],
+    s: State,
+) -> Turn
     requires { ⌜ (s .rounds ≤ s .steps) × (s .lost ≤ s .rounds) × (s .steps < 0xffff_ffff) ⌝ }
-    ensures { λ r. ⌜ nextOf r (now (values .exit)) ≡ turnOf (playOf one (graphOf (now (file .entry)) m) (now (words .entry))) (stOf s (now (values .entry))) ⌝ }
+    ensures { λ r. ⌜ nextOf r (now (values .exit)) ≡ turnOf (playAlong one (graphOf (now (file .entry)) m) (now (order .entry)) (now (words .entry))) (stOf s (now (values .entry))) ⌝ }
 {
     let walk = s.walk;
     match monster::step(file, m, values, words, walk) {
         Move::To(next, choice) => land(
             file,
             m,
+            order,
             values,
             State {
                 walk: next,
@@ -139,12 +147,13 @@ fn take_turn(file: &[u8], m: Formula, words: &[u64], values: &mut [u64], s: Stat
 fn turns(
     file: &[u8],
     m: Formula,
+    order: &[u32],
     words: &[u64],
     values: &mut [u64],
     source: WordSource,
     budget: u32,
 ) -> Outcome
-    ensures { λ r. ⌜ outOf r (now (values .exit)) ≡ runFrom (playOf one (graphOf (now (file .entry)) m) (now (words .entry))) budget (begin (m .root .0) (now (values .entry)) (source .at)) ⌝ }
+    ensures { λ r. ⌜ outOf r (now (values .exit)) ≡ runFrom (playAlong one (graphOf (now (file .entry)) m) (now (order .entry)) (now (words .entry))) budget (begin (m .root .0) (now (values .entry)) (source .at)) ⌝ }
 {
     let root = m.root;
     let mut s = State {
@@ -158,7 +167,7 @@ fn turns(
         steps: 0,
     };
     while s.steps < budget {
-        match take_turn(file, m, words, values, s) {
+        match take_turn(file, m, order, words, values, s) {
             Turn::Done(o) => {
                 return o;
             }
@@ -178,16 +187,17 @@ fn turns(
     }
 }
 
-// The search from given values, with the source of the next word.
+// The search from given values, with the source of the next word. The order is the one along which the operators are worked out.
 pub fn sat(
     file: &[u8],
     m: Formula,
+    order: &[u32],
     words: &[u64],
     values: &mut [u64],
     source: WordSource,
     budget: u32,
 ) -> Outcome
-    ensures { λ r. ⌜ outOf r (now (values .exit)) ≡ searchOf (playOf one (graphOf (now (file .entry)) m) (now (words .entry))) budget (now (values .entry)) (source .at) ⌝ }
+    ensures { λ r. ⌜ outOf r (now (values .exit)) ≡ searchOf (playAlong one (graphOf (now (file .entry)) m) (now (order .entry)) (now (words .entry))) budget (now (values .entry)) (source .at) ⌝ }
 {
     let root = m.root;
     let v = assign::value_at(values, root);
@@ -209,7 +219,7 @@ pub fn sat(
             words: source.at,
         },
         Node::Input(l) => {
-            assign::update_assignment(file, m, values, root, BitVector(1));
+            assign::update_assignment(file, m, order, values, root, BitVector(1));
             Outcome {
                 end: End::Solved,
                 rounds: 1,
@@ -218,7 +228,7 @@ pub fn sat(
                 words: source.at,
             }
         }
-        Node::Unary(a) => turns(file, m, words, values, source, budget),
-        Node::Binary(op, a, b) => turns(file, m, words, values, source, budget),
+        Node::Unary(a) => turns(file, m, order, words, values, source, budget),
+        Node::Binary(op, a, b) => turns(file, m, order, words, values, source, budget),
     }
 }

@@ -4,16 +4,16 @@ use mathlib.Core.Path.{_≡_}
 use native.Mathlib.Omega.{arith}
 use borrow.Author.Needs.{needs}
 use Rattle.formula.specs.Graph.{graphOf}
-use Rattle.assign.specs.Settle.{settleUpTo}
-use Rattle.assign.proofs.Passes.{settle-begin, settle-turn, settle-kept, settle-end}
+use Rattle.assign.specs.Settle.{alongUpTo}
+use Rattle.assign.proofs.Passes.{along-begin, along-turn, along-kept, along-end}
 use Rattle.assign.proofs.propagate_assignment.Statement.{statement}
 use Rattle.assign.proofs.propagate_assignment.Tie as tie
 
 abbrev Inv-loop : tie.InvT-loop
-Inv-loop file m values₀ n i₀ values i = (i ≤ n) × (values ≡ settleUpTo (graphOf file m) i values₀)
+Inv-loop file m order values₀ n k₀ values k = (k ≤ n) × (values ≡ alongUpTo (graphOf file m) order k values₀)
 
 abbrev μ-loop : tie.MeasureT-loop
-μ-loop file m values₀ n i₀ values i = n - i
+μ-loop file m order values₀ n k₀ values k = n - k
 
 pub propagate-assignment-spec : {M : Type 1} → statement M
 propagate-assignment-spec =
@@ -21,12 +21,13 @@ propagate-assignment-spec =
     (tie.spec
     Inv-loop
     μ-loop
-    (λ c. (omega arith, settle-begin _ _ _))
+    (λ c. (omega arith, along-begin _ _ _ _))
+    (λ c κs. search needs)
     (λ c κs. search needs)
     (λ c κs. search needs)
     (λ c κs. search needs)
     (λ c. omega arith)
     (λ c. omega arith)
-    (λ c. (omega arith, search (settle-turn, needs)))
-    (λ c. search (settle-kept, needs))
-    (λ c. search (settle-end, needs)))
+    (λ c. (omega arith, search (along-turn, needs)))
+    (λ c. search (along-kept, needs))
+    (λ c. search (along-end, needs)))

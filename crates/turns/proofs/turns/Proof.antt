@@ -7,19 +7,19 @@ use borrow.Author.Needs.{needs}
 use Rattle.formula.specs.Graph.{graphOf}
 use Rattle.search.specs.Machine.{runFrom}
 use Rattle.rules.specs.One.{one}
-use Rattle.monster.specs.Step.{playOf}
+use Rattle.monster.specs.Step.{playAlong}
 use Rattle.turns.specs.Turn.{stOf}
 use Rattle.turns.proofs.Laws.{turns-begin, turns-long, turns-return, turns-rounds, turns-lost, turns-within, turns-less, turns-again, turns-spent}
 use Rattle.turns.proofs.turns.Statement.{statement}
 use Rattle.turns.proofs.turns.Tie as tie
 
 abbrev Inv-loop : tie.InvT-loop
-Inv-loop file m words values₀ budget s₀ values s =
+Inv-loop file m order words values₀ budget s₀ values s =
     (s .rounds ≤ s .steps) × (s .lost ≤ s .rounds) × (s .steps ≤ budget) × (length values ≡ length values₀)
-    × (runFrom (playOf one (graphOf file m) words) (budget - s .steps) (stOf s values) ≡ runFrom (playOf one (graphOf file m) words) budget (stOf s₀ values₀))
+    × (runFrom (playAlong one (graphOf file m) order words) (budget - s .steps) (stOf s values) ≡ runFrom (playAlong one (graphOf file m) order words) budget (stOf s₀ values₀))
 
 abbrev μ-loop : tie.MeasureT-loop
-μ-loop file m words values₀ budget s₀ values s = budget - s .steps
+μ-loop file m order words values₀ budget s₀ values s = budget - s .steps
 
 pub turns-spec : {M : Type 1} → statement M
 turns-spec =

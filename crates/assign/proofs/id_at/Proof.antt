@@ -1,0 +1,14 @@
+-- `assign::id_at` meets its contract. Assumes nothing.
+use borrow.Author.Needs.{needs}
+use Rattle.laws.proofs.Lists.{read-past}
+use Rattle.assign.proofs.id_at.Statement.{statement}
+use Rattle.assign.proofs.id_at.Tie as tie
+
+pub id-at-spec : {M : Type 1} → statement M
+id-at-spec =
+    tie.close
+    (tie.spec
+    (λ c. search needs)
+    (λ c. search needs)
+    (λ c. search needs)
+    (λ c. search (read-past, needs)))
