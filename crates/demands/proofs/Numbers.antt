@@ -9,7 +9,7 @@ use native.Mathlib.Omega.{arith}
 use lib.ListN.{length}
 use Rattle.laws.specs.Rows.{givesAt}
 use Rattle.words.specs.Words.{Words}
-use Rattle.symbols.specs.Graph.{Id, Graph}
+use Rattle.symbols.specs.Graph.{Id, Graph, Depends}
 use Rattle.symbols.specs.Refusals.{numberOf, valuesOf}
 use Rattle.symbols.proofs.Numbers.{refusal-injective}
 use Rattle.symbols.specs.declared.Refusal.{Refusal}
@@ -17,12 +17,12 @@ use Rattle.symbols.specs.declared.Refusal.the-variants as refusal
 use Rattle.formula.specs.File.{File, formulaOf, recordAt}
 use Rattle.formula.specs.Graph.{nodeOf}
 use Rattle.checks.specs.Refusals as file
-use Rattle.checks.specs.Refusals.{badSize, badTrailer, badSpan, badRecord, disordered, fixed, headRows, checks, verdict}
+use Rattle.checks.specs.Refusals.{badSize, badTrailer, badSpan, badRecord, outside, fixed, headRows, checks, verdict}
 use Rattle.checks.specs.declared.Finding.the-variants.{Clear, Refuse}
-use Rattle.filelaws.specs.Fine.{Until}
+use Rattle.filelaws.specs.Fine.{Until, Free, BeforeRoot}
 use Rattle.filelaws.proofs.Exactly.{refused-exactly}
 use Rattle.filelaws.proofs.Places.{placeOf, given-place}
-use Rattle.filelaws.proofs.Numbers.{size-exactly, trailer-exactly, span-exactly, record-exactly, order-exactly, root-exactly, fixed-root-exactly}
+use Rattle.filelaws.proofs.Numbers.{size-exactly, trailer-exactly, span-exactly, record-exactly, order-exactly, cycle-exactly, root-exactly, fixed-root-exactly}
 use Rattle.search.specs.Machine.{Values, Out}
 use Rattle.rules.specs.One.{one}
 use Rattle.assign.specs.Start.{wanted}
@@ -73,7 +73,7 @@ module _ (f : File) (ws : Words) (budget : ℕ) (vs : Values) where
       go x (by-words h l w) q = cc
       go x (by-search a) q = ended-refused q
 
-  -- 1 to 7 are the file's
+  -- 1 to 7 and 13 are the file's
   of-file : (r : Refusal) → (refusal.Room ≡ r → ⊥) → (refusal.Words ≡ r → ⊥) → (answered ≡ refuse r vs) ↔ (verdict f ≡ file.refuse r)
   of-file r nr nw = (λ e. go answered (came f ws budget vs) e, λ h. came-only f ws budget vs _ (by-file r h))
     where
@@ -102,19 +102,24 @@ module _ (f : File) (ws : Words) (budget : ℕ) (vs : Values) where
   pub given-4 : (x : Id) → (answered ≡ refused 4 (x ∷ []) vs) ↔ ((x < formulaOf f .count) × Until f (formulaOf f) x × (badRecord (recordAt f (formulaOf f) x) ≡ true))
   given-4 x = both (of-file (refusal.Record record { 0 = x }) (λ e. let z : _≡_ {A = ℕ} 0 1 = cc in omega arith) (λ e. let z : _≡_ {A = ℕ} 0 1 = cc in omega arith)) (record-exactly f x)
 
-  -- 5 Order(id): "an operand id not below its own"
+  -- 5 Order(id): "an operand id not below n"
   pub given-5 : (x : Id)
       → (answered ≡ refused 5 (x ∷ []) vs)
-      ↔ ((x < formulaOf f .count) × Until f (formulaOf f) x × (badRecord (recordAt f (formulaOf f) x) ≡ false) × (disordered x (nodeOf (recordAt f (formulaOf f) x)) ≡ true))
+      ↔ ((x < formulaOf f .count) × Until f (formulaOf f) x × (badRecord (recordAt f (formulaOf f) x) ≡ false) × (outside (formulaOf f .count) (nodeOf (recordAt f (formulaOf f) x)) ≡ true))
   given-5 x = both (of-file (refusal.Order record { 0 = x }) (λ e. let z : _≡_ {A = ℕ} 0 1 = cc in omega arith) (λ e. let z : _≡_ {A = ℕ} 0 1 = cc in omega arith)) (order-exactly f x)
 
+  -- 13 Cycle(id): "the lowest id that reaches itself, after all records, before 6"
+  pub given-13 : (x : Id)
+      → (answered ≡ refused 13 (x ∷ []) vs) ↔ ((x < formulaOf f .count) × Until f (formulaOf f) (formulaOf f .count) × Free f (formulaOf f) x × Depends g x x)
+  given-13 x = both (of-file (refusal.Cycle record { 0 = x }) (λ e. let z : _≡_ {A = ℕ} 0 1 = cc in omega arith) (λ e. let z : _≡_ {A = ℕ} 0 1 = cc in omega arith)) (cycle-exactly f x)
+
   -- 6 Root: "root ≥ n"
-  pub given-6 : (answered ≡ refused 6 [] vs) ↔ (Until f (formulaOf f) (formulaOf f .count) × (formulaOf f .count ≤ formulaOf f .root .0))
+  pub given-6 : (answered ≡ refused 6 [] vs) ↔ (BeforeRoot f (formulaOf f) × (formulaOf f .count ≤ formulaOf f .root .0))
   given-6 = both (of-file refusal.Root (λ e. let z : _≡_ {A = ℕ} 0 1 = cc in omega arith) (λ e. let z : _≡_ {A = ℕ} 0 1 = cc in omega arith)) (root-exactly f)
 
   -- 7 FixedRoot: "root is a constant other than 1"
   pub given-7 : (answered ≡ refused 7 [] vs)
-      ↔ (Until f (formulaOf f) (formulaOf f .count) × (formulaOf f .root .0 < formulaOf f .count) × (fixed (g .node (formulaOf f .root .0)) ≡ true))
+      ↔ (BeforeRoot f (formulaOf f) × (formulaOf f .root .0 < formulaOf f .count) × (fixed (g .node (formulaOf f .root .0)) ≡ true))
   given-7 = both (of-file refusal.FixedRoot (λ e. let z : _≡_ {A = ℕ} 0 1 = cc in omega arith) (λ e. let z : _≡_ {A = ℕ} 0 1 = cc in omega arith)) (fixed-root-exactly f)
 
   -- 8 Room: "value buffer not exactly n long"

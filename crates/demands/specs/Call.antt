@@ -28,13 +28,13 @@ pub record Lent (f : File) (ws : Words) : Type 0 where
 abbrev pub graphIn : File → Graph
 graphIn f = graphOf f (formulaOf f)
 
--- none of 1 to 9: "8 Room: value buffer not exactly n long", "9 Words: fewer words than non-constant nodes"
+-- none of 1 to 9 and 13: "8 Room: value buffer not exactly n long", "9 Words: fewer words than non-constant nodes"
 pub record Accepted (f : File) (ws : Words) (vs : Values) : Type 0 where
   pub file : verdict f ≡ accepted (formulaOf f)
   pub room : length vs ≡ graphIn f .count
   pub words : wanted (graphIn f) ≤ length ws
 
--- "Numbers of refusal", 1 to 9, as one table in the paper's order
+-- "Numbers of refusal", 1 to 9 and 13, as one table in the papers' order
 unfoldable pub tableOf : File → Words → Values → List (Row Finding)
 tableOf f ws vs = checks f ++ lentRows (graphIn f) ws vs
 

@@ -11,6 +11,7 @@ use borrow.Author.Tests.{eqb-true, not-false}
 use Rattle.words.specs.Words.{Words, Place}
 use Rattle.words.proofs.Draws.{Small}
 use Rattle.symbols.specs.Graph.{Value, Node, constant, Graph}
+use Rattle.symbols.specs.Order.{Acyclic}
 use Rattle.formula.specs.File.{File, formulaOf}
 use Rattle.formula.specs.Graph.{graphOf}
 use Rattle.checks.specs.Refusals.{accepted, verdict}
@@ -18,16 +19,16 @@ use Rattle.checks.specs.Refusals as refusals
 use Rattle.formula.specs.declared.Formula.{Formula}
 use Rattle.filelaws.proofs.Exactly.{accepted-formula}
 use Rattle.filelaws.proofs.Numbers.{accepted-when}
-use Rattle.filelaws.proofs.Accepted.{accepted-ordered}
+use Rattle.filelaws.proofs.Accepted.{accepted-well-formed, accepted-acyclic}
 use Rattle.filelaws.proofs.Nodes.{Bytes, constant-small}
 use Rattle.search.specs.Machine.{valueOf}
-use Rattle.search.specs.Solution.{Sane, Acyclic}
+use Rattle.search.specs.Solution.{Sane}
 use Rattle.search.specs.Lawful.{Redoes, Lawful, Forward, Longer}
 use Rattle.rules.specs.Rules.{Rules}
 use Rattle.rules.specs.One.{one}
 use Rattle.promises.specs.Choice.{Onward}
 use Rattle.assign.specs.Start.{startOf}
-use Rattle.assign.proofs.Laws.{Upward, settle-length, settle-redone, all-below, start-sane}
+use Rattle.assign.proofs.Laws.{settle-length, settle-redone, all-below, start-sane}
 use Rattle.monster.specs.Step.{playOf}
 use Rattle.lawful.specs.Owed.{falseKinds, SteadyRules}
 use Rattle.lawful.proofs.Steps.{LedTo, step-onward, step-same, step-led}
@@ -53,12 +54,9 @@ module _ (ρ : Rules) (steady : SteadyRules ρ) (g : Graph) (ws : Words) where
   pub play-longer : (us : Words) → Longer (playOf ρ g ws) (playOf ρ g (ws ++ us) .step)
   play-longer us = record { same = λ vs i t m. step-same ρ steady g vs ws us i t m }
 
--- of an upward graph: what propagation leaves
-pub play-redoes : (ρ : Rules) (g : Graph) (ws : Words) → Upward g → Redoes (playOf ρ g ws)
-play-redoes ρ g ws u = record { long = λ vs l. settle-length g vs ∙ l; redone = λ vs l i p. settle-redone g u vs l i p }
-
-upward-acyclic : (g : Graph) → Upward g → Acyclic g
-upward-acyclic g u = record { rank = λ i. i; inside = λ i j p o. omega (arith, u i j p o); falls = λ i j p o. u i j p o }
+-- of an acyclic graph: what propagation leaves
+pub play-redoes : (ρ : Rules) (g : Graph) (ws : Words) → Acyclic g → Redoes (playOf ρ g ws)
+play-redoes ρ g ws acyclic = record { long = λ vs l. settle-length g vs; redone = λ vs l i p. settle-redone g acyclic vs i p }
 
 -- of an accepted file
 not-fixed : (q : Node) → refusals.fixed q ≡ false → (c : Value) → q ≡ constant c → c ≡ 1
@@ -72,19 +70,19 @@ module _ (f : File) (m : Formula) (ok : verdict f ≡ accepted m) (ws : Words) (
   abbrev g : Graph
   g = graphOf f m
 
-  upward : Upward g
-  upward = accepted-ordered f m ok .below
+  acyclic : Acyclic g
+  acyclic = accepted-acyclic f m ok
 
   -- "values are 0..M": the start's values are sane
   pub play-start : Bytes f → Sane g (startOf g ws)
-  play-start bytes = start-sane g ws upward small (λ i c p e. constant-small f m i c bytes e)
+  play-start bytes = start-sane g ws acyclic small (λ i c p e. constant-small f m i c bytes e)
 
   pub play-lawful : Lawful falseKinds (playOf one g ws)
   play-lawful = record {
-    acyclic = upward-acyclic g upward;
-    rooted = accepted-ordered f m ok .rooted;
+    acyclic = acyclic;
+    rooted = accepted-well-formed f m ok .rooted;
     fixed = not-fixed (g .node (g .root)) (root-free f m (accepted-formula f m ok) ok);
-    redoes = play-redoes one g ws upward;
+    redoes = play-redoes one g ws acyclic;
     led =
         λ vs i t n x u k c sane p h e.
         subst (LedTo (g .node i) (valueOf vs) t) e (step-led ws small vs (all-below g vs (sane .long) (sane .below)) t h g i n);
