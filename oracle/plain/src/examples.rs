@@ -1,6 +1,7 @@
-//! The folders of `examples/`: five that a person can run and read about, and
+//! The folders of `examples/`: six that a person can run and read about, and
 //! the small ones of `examples/cases/`. Binary `write_examples` writes them.
 
+use crate::cycles::downward;
 use crate::file::{encode, graph, Graph, Node};
 use crate::limits::{every_kind, with_field, Random};
 use crate::operators::Operator::{Add, BitwiseAnd, Equals, Mul, Remu};
@@ -56,10 +57,10 @@ impl Example {
     }
 }
 
-/// Every folder, the five first.
+/// Every folder, the six first.
 pub fn all() -> Vec<Example> {
-    let mut all = five();
-    for group in [bad_files(), odd_files(), ends(), inputs()] {
+    let mut all = six();
+    for group in [bad_files(), cycles(), odd_files(), ends(), inputs()] {
         for mut case in group {
             case.name = format!("cases/{}", case.name);
             all.push(case);
@@ -68,13 +69,16 @@ pub fn all() -> Vec<Example> {
     all
 }
 
-/// The five that a person can run and read about.
-pub fn five() -> Vec<Example> {
+/// The six that a person can run and read about.
+pub fn six() -> Vec<Example> {
     let collision = collision();
+    let mut upward = collision_words();
+    upward[..11].reverse();
     vec![
         example("collision", &collision, &collision_words()),
         example("dry", &collision, &collision_words()[..30]),
         example("example", &document_01(), &[0; 7]),
+        example("operators-first", &downward(&collision), &upward),
         with_file("refused", patched(&collision, 6, 4, 6), &collision_words()),
         example("spent", &folded(), &[5, 0]),
     ]
@@ -131,16 +135,18 @@ fn folded() -> Graph {
     graph(nodes, 2)
 }
 
+/// A file with one more byte replaced.
+fn both(mut file: Vec<u8>, at: usize, byte: u8) -> Vec<u8> {
+    file[at] = byte;
+    file
+}
+
 /// Refusals 1 to 7 and 9.
 fn bad_files() -> Vec<Example> {
     let sound = document_01();
     let file = encode(&sound, b"");
     let zero = graph(vec![Node::Constant(0)], 0);
     let two = graph(vec![Node::Input(5), Node::Constant(2)], 1);
-    let both = |mut file: Vec<u8>, at: usize, byte: u8| {
-        file[at] = byte;
-        file
-    };
     vec![
         with_file("refused-1-empty", vec![], &[0; 7]),
         with_file("refused-1-short", vec![0; 15], &[0; 7]),
@@ -156,20 +162,53 @@ fn bad_files() -> Vec<Example> {
         with_file("refused-4-byte", patched(&sound, 1, 7, 1), &[0; 7]),
         with_file(
             "refused-4-before-5",
-            both(patched(&sound, 2, 4, 2), 2 * 16 + 15, 1),
+            both(patched(&sound, 2, 4, 5), 2 * 16 + 15, 1),
             &[0; 7],
         ),
-        with_file("refused-5-itself", patched(&sound, 2, 4, 2), &[0; 7]),
-        with_file("refused-5-later", patched(&sound, 2, 8, 3), &[0; 7]),
+        with_file("refused-5-count", patched(&sound, 2, 4, 5), &[0; 7]),
+        with_file("refused-5-far", patched(&sound, 2, 7, 1), &[0; 7]),
         with_file(
             "refused-5-before-4",
-            both(patched(&sound, 2, 4, 2), 3 * 16 + 1, 1),
+            both(patched(&sound, 2, 4, 5), 3 * 16 + 1, 1),
             &[0; 7],
         ),
         with_file("refused-6", with_field(&file, 1, 5), &[0; 7]),
         example("refused-7-zero", &zero, &[0; 7]),
         example("refused-7-two", &two, &[0; 7]),
         example("refused-9", &sound, &[0; 2]),
+    ]
+}
+
+/// Refusal 13 and what stands near it.
+fn cycles() -> Vec<Example> {
+    let sound = document_01();
+    let itself = patched(&sound, 2, 4, 2);
+    let mut unreached = sound.nodes.clone();
+    unreached.push(Node::Unary(5));
+    let nots = |operands: &[usize]| operands.iter().map(|id| Node::Unary(*id)).collect();
+    let fixed = vec![Node::Constant(0), Node::Unary(1)];
+    let rings = graph(nots(&[1, 4, 3, 2, 1]), 0);
+    let above = patched(&downward(&collision()), 7, 8, 7);
+    vec![
+        with_file(
+            "operand-later",
+            patched(&sound, 2, 8, 3),
+            &[5, 0, 0, 0, 0, 0, 0],
+        ),
+        with_file("refused-13-itself", itself.clone(), &[0; 7]),
+        with_file("refused-13-two", patched(&sound, 2, 8, 4), &[0; 7]),
+        with_file("refused-13-three", patched(&collision(), 4, 8, 8), &[]),
+        with_file("refused-13-above", above, &[]),
+        example("refused-13-unreached", &graph(unreached, 4), &[0; 7]),
+        example("refused-13-lowest", &rings, &[]),
+        with_file("refused-13-before-6", with_field(&itself, 1, 5), &[0; 7]),
+        example("refused-13-before-7", &graph(fixed, 0), &[0; 7]),
+        with_file(
+            "refused-4-before-13",
+            both(itself.clone(), 3 * 16 + 1, 1),
+            &[0; 7],
+        ),
+        with_file("refused-5-before-13", both(itself, 4 * 16 + 8, 5), &[0; 7]),
     ]
 }
 
@@ -349,13 +388,13 @@ mod tests {
             assert_eq!(found, example.files().len(), "{}", example.name);
         }
         let cases = fs::read_dir(folder().join("cases")).unwrap().count();
-        assert_eq!(cases, all().len() - five().len());
+        assert_eq!(cases, all().len() - six().len());
     }
 
     #[test]
     fn the_readme_tells_of_each() {
         let readme = fs::read_to_string(folder().join("README.md")).unwrap();
-        for example in five() {
+        for example in six() {
             assert!(
                 readme.contains(&format!("## {}\n", example.name)),
                 "{}",
@@ -363,7 +402,7 @@ mod tests {
             );
             assert!(readme.contains(&example.expected()), "{}", example.name);
         }
-        for example in all().iter().skip(five().len()) {
+        for example in all().iter().skip(six().len()) {
             let name = example.name.trim_start_matches("cases/");
             assert!(readme.contains(&format!("| `{name}` |")), "{name}");
         }

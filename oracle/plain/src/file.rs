@@ -1,4 +1,5 @@
-//! Section "The graph file", with refusals 1 to 7 of "Numbers of refusal".
+//! Section "The graph file", with refusals 1 to 7 of "Numbers of refusal" and, of
+//! document 02, Q-1: "Nodes in any order", with refusal 13.
 
 use crate::operators::Operator;
 pub use crate::refusals::Refusal;
@@ -16,12 +17,14 @@ pub enum Node {
     Binary(Operator, usize, usize),
 }
 
-/// The decoded file: "n records", the root, and the nodes by id.
+/// The decoded file: "n records", the root, the nodes by id, and an order in which
+/// "operators are worked out after their operands".
 #[derive(Clone, Debug, PartialEq, Eq)]
 pub struct Graph {
     pub count: usize,
     pub root: usize,
     pub nodes: Vec<Node>,
+    pub order: Vec<usize>,
 }
 
 /// "Checks run in this order. Records are scanned upward; 4 before 5 within
@@ -52,23 +55,28 @@ pub fn check(file: &[u8]) -> Result<Graph, Refusal> {
     let mut nodes = Vec::new();
     for id in 0..count {
         let record = &file[first + 16 * id..first + 16 * id + 16];
-        nodes.push(node(record, id)?);
+        nodes.push(node(record, id, count)?);
+    }
+    // "13 Cycle(id), the lowest id that reaches itself, after all records, before 6"
+    let graph = graph(nodes, root);
+    if let Some(id) = lowest_on_a_cycle(&graph) {
+        return Err(Refusal::Cycle(id));
     }
     // "6 Root | root ≥ n"
     if root >= count {
         return Err(Refusal::Root);
     }
     // "7 FixedRoot | root is a constant other than 1"
-    if let Node::Constant(value) = nodes[root] {
+    if let Node::Constant(value) = graph.nodes[root] {
         if value != 1 {
             return Err(Refusal::FixedRoot);
         }
     }
-    Ok(Graph { count, root, nodes })
+    Ok(graph)
 }
 
 /// One record: "4 before 5 within one".
-fn node(record: &[u8], id: usize) -> Result<Node, Refusal> {
+fn node(record: &[u8], id: usize, count: usize) -> Result<Node, Refusal> {
     // "4 Record(id) | unknown kind or a non-zero byte that must be zero"
     let kind = record[0];
     if kind > 10 || (0..16).any(|byte| !holds(kind, byte) && record[byte] != 0) {
@@ -81,11 +89,58 @@ fn node(record: &[u8], id: usize) -> Result<Node, Refusal> {
         Some(Operator::Not) => Node::Unary(u32_at(record, 4)),
         Some(op) => Node::Binary(op, u32_at(record, 4), u32_at(record, 8)),
     };
-    // "5 Order(id) | an operand id not below its own"
-    if operands(&node).iter().any(|operand| *operand >= id) {
+    // "5 now means an operand id not below n"
+    if operands(&node).iter().any(|operand| *operand >= count) {
         return Err(Refusal::Order(id));
     }
     Ok(node)
+}
+
+/// "the lowest id that reaches itself". A node in the order comes after its operands
+/// and all below them, so it does not; the others are on a cycle or above one.
+fn lowest_on_a_cycle(graph: &Graph) -> Option<usize> {
+    let mut ordered = vec![false; graph.count];
+    for id in &graph.order {
+        ordered[*id] = true;
+    }
+    (0..graph.count).find(|id| !ordered[*id] && reaches_itself(&graph.nodes, *id))
+}
+
+/// Whether a "node reaches itself through operands".
+fn reaches_itself(nodes: &[Node], id: usize) -> bool {
+    let mut reached = vec![false; nodes.len()];
+    let mut open = operands(&nodes[id]);
+    while let Some(next) = open.pop() {
+        if !reached[next] {
+            reached[next] = true;
+            open.extend(operands(&nodes[next]));
+        }
+    }
+    reached[id]
+}
+
+/// "operators are worked out after their operands": leaves first, then each node as
+/// soon as all its operands are there. A node on a cycle, or above one, never is.
+fn order(nodes: &[Node]) -> Vec<usize> {
+    let mut missing: Vec<usize> = nodes.iter().map(|node| operands(node).len()).collect();
+    let mut users = vec![vec![]; nodes.len()];
+    for (id, node) in nodes.iter().enumerate() {
+        for operand in operands(node) {
+            users[operand].push(id);
+        }
+    }
+    let mut order: Vec<usize> = (0..nodes.len()).filter(|id| missing[*id] == 0).collect();
+    let mut done = 0;
+    while done < order.len() {
+        for user in &users[order[done]] {
+            missing[*user] -= 1;
+            if missing[*user] == 0 {
+                order.push(*user);
+            }
+        }
+        done += 1;
+    }
+    order
 }
 
 /// Whether a byte of a record holds something; "All other bytes are zero."
@@ -144,11 +199,12 @@ pub fn record(node: &Node) -> [u8; 16] {
     bytes
 }
 
-/// A graph of these nodes with this root.
+/// A graph of these nodes, whose operands are among them, with this root.
 pub fn graph(nodes: Vec<Node>, root: usize) -> Graph {
     Graph {
         count: nodes.len(),
         root,
+        order: order(&nodes),
         nodes,
     }
 }

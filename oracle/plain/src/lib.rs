@@ -1,5 +1,6 @@
 //! The plain reading: document 01 ("The retry solver, stated with its exact
-//! rules") written down sentence by sentence, and from that paper alone.
+//! rules") written down sentence by sentence, and from that paper alone. Where a
+//! request of document 02 has landed, its sentences replace those of document 01.
 //!
 //! There is one file for each section of the document. Every function stands
 //! under the sentence it renders. Nothing here is clever: a comparison is only
@@ -10,6 +11,7 @@
 // The cases stay as the paper writes them: "x/0", "not a multiple of 16".
 #![allow(clippy::manual_checked_ops, clippy::manual_is_multiple_of)]
 
+pub mod cycles;
 pub mod examples;
 pub mod file;
 pub mod limits;

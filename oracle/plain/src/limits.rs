@@ -2,6 +2,7 @@
 //! refusal", and files damaged at random. A comparison feeds each of them to a
 //! `check` and holds the answer against [`crate::file::check`].
 
+use crate::cycles::{self, new_ids, renamed};
 use crate::file::{encode, graph, holds, operands, record, Graph, Node};
 use crate::operators::{Operator, ALL};
 use crate::M;
@@ -17,6 +18,10 @@ pub fn cases() -> impl Iterator<Item = Case> {
         distances,
         trailers,
         operand_ids,
+        cycles::at_every_place,
+        cycles::two_cycles,
+        cycles::tangles,
+        cycles::of_the_largest,
         roots,
         constant_roots,
         zero_bytes,
@@ -164,14 +169,14 @@ fn trailers() -> Vec<Case> {
     cases
 }
 
-/// "5 Order(id) | an operand id not below its own".
+/// "5 now means an operand id not below n"; other ids may make a cycle.
 fn operand_ids() -> Vec<Case> {
     let mut cases = Vec::new();
     let graph = every_kind();
     let n = graph.count;
     for id in 2..n {
         for place in 0..operands(&graph.nodes[id]).len() {
-            let mut tried = vec![0, 1, id - 1, id, id + 1, id + 16, n - 1, n];
+            let mut tried = vec![0, 1, id - 1, id, id + 1, id + 16, n - 1, n, n + 1];
             tried.extend([
                 id << 8,
                 id << 16,
@@ -337,15 +342,17 @@ fn notes() -> Vec<Case> {
 type Fault = (&'static str, fn(&mut Vec<u8>));
 
 /// Faults of every number, those of the records at different ids.
-const FAULTS: [Fault; 12] = [
+const FAULTS: [Fault; 14] = [
     ("7 constant root", |file| {
         file[8] = 2;
         put_u32(file, 11 * 16 + 4, 0);
     }),
     ("6 root", |file| put_u32(file, 11 * 16 + 4, 11)),
-    ("5 at 2", |file| file[2 * 16 + 8] = 2),
-    ("5 at 6", |file| file[6 * 16 + 4] = 7),
-    ("5 at 8", |file| file[8 * 16 + 4] = 8),
+    ("13 at 4", |file| file[4 * 16 + 8] = 5),
+    ("13 at 3", |file| file[3 * 16 + 4] = 3),
+    ("5 at 2", |file| file[2 * 16 + 8] = 11),
+    ("5 at 6", |file| file[6 * 16 + 4] = 12),
+    ("5 at 8", |file| file[8 * 16 + 4] = 255),
     ("4 at 1, byte", |file| file[16 + 7] = 1),
     ("4 at 6, byte", |file| file[6 * 16 + 12] = 255),
     ("4 at 8, kind", |file| file[8 * 16] = 11),
@@ -475,8 +482,8 @@ fn noise() -> Vec<Case> {
     cases
 }
 
-/// A sound graph of n nodes at random. Constants and labels are small, large or
-/// anything; the root is an operator, an input or the constant 1.
+/// A sound graph of n nodes at random, most with new ids. Constants and labels are
+/// small, large or anything; the root is an operator, an input or the constant 1.
 pub fn random_graph(random: &mut Random, n: usize) -> Graph {
     let mut nodes = vec![random_leaf(random)];
     while nodes.len() < n {
@@ -489,10 +496,11 @@ pub fn random_graph(random: &mut Random, n: usize) -> Graph {
     if let Node::Constant(_) = nodes[root] {
         nodes[root] = Node::Constant(1);
     }
-    graph(nodes, root)
+    let ids = new_ids(n, |most| random.below(most));
+    renamed(&graph(nodes, root), &ids)
 }
 
-fn random_leaf(random: &mut Random) -> Node {
+pub fn random_leaf(random: &mut Random) -> Node {
     let held = random.value();
     match random.below(3) {
         0 => Node::Constant(held),
@@ -500,11 +508,12 @@ fn random_leaf(random: &mut Random) -> Node {
     }
 }
 
-fn random_node(random: &mut Random, id: usize) -> Node {
+/// A leaf, or an operator over ids below a number.
+pub fn random_node(random: &mut Random, most: usize) -> Node {
     match random.below(14) {
         kind @ 2..=10 => match Operator::of(kind as u8) {
-            Some(Operator::Not) | None => Node::Unary(random.below(id)),
-            Some(op) => Node::Binary(op, random.below(id), random.below(id)),
+            Some(Operator::Not) | None => Node::Unary(random.below(most)),
+            Some(op) => Node::Binary(op, random.below(most), random.below(most)),
         },
         _ => random_leaf(random),
     }
@@ -574,37 +583,42 @@ mod tests {
     use super::*;
     use crate::file::check;
     use crate::Refusal;
+    use std::collections::BTreeMap;
 
     #[test]
     fn every_answer_of_a_file_occurs() {
-        let mut seen = [0; 8];
+        let mut seen = BTreeMap::new();
         for (_, file) in cases() {
-            match check(&file) {
+            let number = match check(&file) {
                 Ok(graph) => {
-                    seen[0] += 1;
                     let note = &file[..file.len() - 16 - 16 * graph.count];
                     assert_eq!(encode(&graph, note), file);
+                    0
                 }
-                Err(refusal) => seen[refusal.number() as usize] += 1,
-            }
+                Err(refusal) => refusal.number(),
+            };
+            *seen.entry(number).or_insert(0) += 1;
         }
-        assert!(seen.iter().all(|count| *count > 20), "{seen:?}");
+        assert!(seen.keys().copied().eq((0..=7).chain([13])), "{seen:?}");
+        assert!(seen.values().all(|count| *count > 20), "{seen:?}");
     }
 
     #[test]
     fn the_lowest_number_of_several_faults_wins() {
         let answer = |set| check(&with_faults(set).1).unwrap_err();
-        assert_eq!(answer(0b1111_1111_1111), Refusal::Size);
-        assert_eq!(answer(0b0111_1111_1111), Refusal::Trailer);
-        assert_eq!(answer(0b0001_1111_1111), Refusal::Span);
-        assert_eq!(answer(0b0000_1111_1111), Refusal::Record(1));
-        assert_eq!(answer(0b0000_1101_1111), Refusal::Order(2));
-        assert_eq!(answer(0b0000_1101_1011), Refusal::Record(6));
-        assert_eq!(answer(0b0000_1001_1011), Refusal::Order(6));
-        assert_eq!(answer(0b0000_1001_0011), Refusal::Record(8));
-        assert_eq!(answer(0b0000_0001_0011), Refusal::Order(8));
-        assert_eq!(answer(0b0000_0000_0011), Refusal::Root);
-        assert_eq!(answer(0b0000_0000_0001), Refusal::FixedRoot);
+        assert_eq!(answer(0b11_1111_1111_1111), Refusal::Size);
+        assert_eq!(answer(0b01_1111_1111_1111), Refusal::Trailer);
+        assert_eq!(answer(0b00_0111_1111_1111), Refusal::Span);
+        assert_eq!(answer(0b00_0011_1111_1111), Refusal::Record(1));
+        assert_eq!(answer(0b00_0011_0111_1111), Refusal::Order(2));
+        assert_eq!(answer(0b00_0011_0110_1111), Refusal::Record(6));
+        assert_eq!(answer(0b00_0010_0110_1111), Refusal::Order(6));
+        assert_eq!(answer(0b00_0010_0100_1111), Refusal::Record(8));
+        assert_eq!(answer(0b00_0000_0100_1111), Refusal::Order(8));
+        assert_eq!(answer(0b00_0000_0000_1111), Refusal::Cycle(3));
+        assert_eq!(answer(0b00_0000_0000_0111), Refusal::Cycle(4));
+        assert_eq!(answer(0b00_0000_0000_0011), Refusal::Root);
+        assert_eq!(answer(0b00_0000_0000_0001), Refusal::FixedRoot);
         assert!(check(&with_faults(0).1).is_ok());
     }
 

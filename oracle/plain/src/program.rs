@@ -36,7 +36,8 @@ fn answer(file: &[u8], words: &[u64]) -> Result<(Graph, Run), Refusal> {
     Ok((graph, run))
 }
 
-/// "a refusal prints `refused N`, with the id after a space for 4 and 5."
+/// "a refusal prints `refused N`, with the id after a space for 4 and 5." 13 is
+/// "printed like 5".
 fn refused(refusal: Refusal) -> String {
     match refusal.id() {
         Some(id) => format!("refused {} {}\n", refusal.number(), id),

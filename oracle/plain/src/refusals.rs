@@ -1,7 +1,8 @@
 //! Section "Numbers of refusal".
 
-/// "No. | Given exactly when": the twelve refusals, in the table's order.
-/// "A refusal returns its number (4 and 5 the id)".
+/// "No. | Given exactly when": the twelve refusals in the table's order, and 13 of
+/// document 02, "after all records, before 6". "A refusal returns its number (4 and
+/// 5 the id)".
 #[derive(Clone, Copy, Debug, PartialEq, Eq, PartialOrd, Ord)]
 pub enum Refusal {
     /// "1 Size | file under 16 or over 65,536 bytes"
@@ -12,8 +13,10 @@ pub enum Refusal {
     Span,
     /// "4 Record(id) | unknown kind or a non-zero byte that must be zero"
     Record(usize),
-    /// "5 Order(id) | an operand id not below its own"
+    /// "5 now means an operand id not below n"
     Order(usize),
+    /// "13 Cycle(id), the lowest id that reaches itself"
+    Cycle(usize),
     /// "6 Root | root ≥ n"
     Root,
     /// "7 FixedRoot | root is a constant other than 1"
@@ -40,6 +43,7 @@ impl Refusal {
             Refusal::Span => 3,
             Refusal::Record(_) => 4,
             Refusal::Order(_) => 5,
+            Refusal::Cycle(_) => 13,
             Refusal::Root => 6,
             Refusal::FixedRoot => 7,
             Refusal::Room => 8,
@@ -50,10 +54,10 @@ impl Refusal {
         }
     }
 
-    /// "(4 and 5 the id)".
+    /// "(4 and 5 the id)", and 13 "printed like 5".
     pub fn id(self) -> Option<usize> {
         match self {
-            Refusal::Record(id) | Refusal::Order(id) => Some(id),
+            Refusal::Record(id) | Refusal::Order(id) | Refusal::Cycle(id) => Some(id),
             _ => None,
         }
     }

@@ -108,7 +108,7 @@ fn solve_into(
 }
 
 /// "Start: each non-constant id, upward, takes a word; then operators are
-/// worked out from their operands."
+/// worked out from their operands." And "Words at the start still go upward by id".
 pub fn start(graph: &Graph, words: &[u64]) -> Draw<Vec<u64>> {
     let mut values = Vec::new();
     let mut at = 0;
@@ -125,11 +125,11 @@ pub fn start(graph: &Graph, words: &[u64]) -> Draw<Vec<u64>> {
     Some((values, at))
 }
 
-/// "operators are worked out from their operands"; "every operator is
-/// recomputed". An operand's id is below its node's, so one upward pass does.
+/// "operators are worked out after their operands, and the end state is the one
+/// solution of all operator equations"; "every operator is recomputed".
 pub fn recompute(graph: &Graph, values: &mut [u64]) {
-    for (id, node) in graph.nodes.iter().enumerate() {
-        match *node {
+    for id in graph.order.iter().copied() {
+        match graph.nodes[id] {
             Node::Constant(_) | Node::Input(_) => {}
             Node::Unary(operand) => values[id] = not(values[operand]),
             Node::Binary(op, left, right) => {

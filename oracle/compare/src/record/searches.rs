@@ -38,6 +38,8 @@ pub struct Searches {
     most: usize,
     shown: Shown,
     cells: Cells,
+    /// Those of graphs that are not sorted.
+    unsorted: Cells,
     roots: Roots,
     refusals: Refusals,
     places: Places,
@@ -50,6 +52,7 @@ pub fn collect(most: usize, coverage: &mut Coverage) -> Vec<Entry> {
         most,
         shown: Shown::new(),
         cells: Cells::default(),
+        unsorted: Cells::default(),
         roots: Roots::new(),
         refusals: Refusals::default(),
         places: Places::default(),
@@ -139,6 +142,9 @@ impl Searches {
             for step in log::steps(seen.case, seen.paper, round) {
                 if let Some(cell) = cell(plan, &step) {
                     self.cells.count(cell, seen.paper.result as usize);
+                    if !plan.is_sorted() {
+                        self.unsorted.count(cell, seen.paper.result as usize);
+                    }
                 }
             }
         }
@@ -148,6 +154,7 @@ impl Searches {
 
     fn print(&self, coverage: &mut Coverage) {
         self.cells.print("steps", 3, coverage);
+        self.unsorted.print("steps, unsorted", 3, coverage);
         self.roots.print(coverage);
         self.refusals.print(coverage);
         self.places.print(coverage);

@@ -9,11 +9,13 @@ use monster::{
     BVOperator::{self, *},
     Node,
 };
+use plain::cycles::new_ids;
 use std::rc::Rc;
 
 const BINARY: [BVOperator; 8] = [Add, Sub, Mul, Divu, Sltu, Remu, Equals, BitwiseAnd];
 
-/// A graph with its root. Nearly all are accepted; a constant root other than 1 is not.
+/// A graph with its root, most with new ids. Nearly all are accepted; a constant root
+/// other than 1 is not.
 pub fn plan(random: &mut Random) -> Plan {
     let mut builder = Builder::new(random);
     builder.shape();
@@ -21,9 +23,19 @@ pub fn plan(random: &mut Random) -> Plan {
         builder.goal();
     }
     let root = builder.root();
+    let nodes = builder.nodes;
+    let ids = new_ids(nodes.len(), |most| random.below(most as u64) as usize);
+    under_new_ids(&nodes, root, &ids)
+}
+
+fn under_new_ids(nodes: &[Node], root: usize, ids: &[usize]) -> Plan {
+    let mut moved = nodes.to_vec();
+    for (id, node) in nodes.iter().enumerate() {
+        moved[ids[id]] = renamed(*node, |operand| ids[operand]);
+    }
     Plan {
-        nodes: builder.nodes,
-        root,
+        nodes: moved,
+        root: ids[root],
     }
 }
 
@@ -188,7 +200,7 @@ impl Builder<'_> {
         let count = self.nodes.len();
         let attempt = self.any();
         for id in 0..count {
-            let copy = moved(self.nodes[id], count);
+            let copy = renamed(self.nodes[id], |operand| operand + count);
             self.push(copy);
         }
         let slots = self.push(Node::Binary(Equals, slot, slot + count));
@@ -238,10 +250,11 @@ impl Builder<'_> {
     }
 }
 
-fn moved(node: Node, by: usize) -> Node {
+/// The node with other ids for its operands.
+fn renamed(node: Node, id: impl Fn(usize) -> usize) -> Node {
     match node {
         Node::Constant(_) | Node::Input(_) => node,
-        Node::Not(operand) => Node::Not(operand + by),
-        Node::Binary(op, left, right) => Node::Binary(op, left + by, right + by),
+        Node::Not(operand) => Node::Not(id(operand)),
+        Node::Binary(op, left, right) => Node::Binary(op, id(left), id(right)),
     }
 }

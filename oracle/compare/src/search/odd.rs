@@ -84,8 +84,18 @@ fn damage(file: &mut Vec<u8>, random: &mut Random) {
         1..8 => file.truncate(place),
         8..24 => damage_trailer(file, random),
         24..32 => file[place] ^= 1 << random.below(8),
+        32..44 => damage_operand(file, random),
         _ => file[place] = random.below(12) as u8,
     }
+}
+
+/// The place of an operand holds the id of any node, or one that is none.
+fn damage_operand(file: &mut [u8], random: &mut Random) {
+    let trailer = file.len() - 16;
+    let count = trailer as u64 / 16;
+    let record = trailer - 16 * (1 + random.below(count) as usize);
+    let at = record + 4 + 4 * random.below(2) as usize;
+    file[at..at + 4].copy_from_slice(&(random.below(count + 1) as u32).to_le_bytes());
 }
 
 /// Any field but the version, or a version that no edition has.

@@ -41,6 +41,8 @@ pub struct Ours {
     reports: [Report; 5],
     with_paper: Cells,
     with_rust: Cells,
+    /// Of those with the Rust, the ones of graphs that are not sorted.
+    unsorted: Cells,
     refusals: Refusals,
 }
 
@@ -51,6 +53,7 @@ impl Ours {
             reports: REPORTS.map(Report::new),
             with_paper: Cells::default(),
             with_rust: Cells::default(),
+            unsorted: Cells::default(),
             refusals: Refusals::default(),
         }
     }
@@ -111,6 +114,9 @@ impl Ours {
         self.with_paper.count(cell, seen.paper.result as usize);
         if let (Some(rust), Some(_)) = (seen.rust, &answers.rust) {
             self.with_rust.count(cell, place(&rust.end));
+            if !seen.case.plan.is_sorted() {
+                self.unsorted.count(cell, place(&rust.end));
+            }
         }
     }
 
@@ -162,6 +168,8 @@ impl Ours {
         self.answer();
         self.with_paper.print("with the paper", 3, coverage);
         self.with_rust.print("with the Rust", ENDS.len(), coverage);
+        self.unsorted
+            .print("with the Rust, unsorted", ENDS.len(), coverage);
         self.refusals.print(coverage);
         self.reports
     }

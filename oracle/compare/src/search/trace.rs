@@ -11,6 +11,18 @@ pub struct Plan {
     pub root: usize,
 }
 
+impl Plan {
+    /// Whether each operand stands below its node.
+    pub fn is_sorted(&self) -> bool {
+        let mut nodes = self.nodes.iter().enumerate();
+        nodes.all(|(id, node)| match *node {
+            Node::Constant(_) | Node::Input(_) => true,
+            Node::Not(operand) => operand < id,
+            Node::Binary(_, left, right) => left < id && right < id,
+        })
+    }
+}
+
 #[derive(Clone, Debug)]
 pub struct Case {
     pub plan: Rc<Plan>,
