@@ -33,6 +33,7 @@ placeOf n refusal.Arity = 0
 placeOf n refusal.NoInverse = 0
 placeOf n refusal.Dry = 0
 placeOf n (refusal.Cycle i) = 3 + 2 * n + i .0
+placeOf n refusal.Short = 0
 
 unfoldable findingPlace : ℕ → Finding → ℕ
 findingPlace n Clear = 0

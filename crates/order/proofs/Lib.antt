@@ -3,5 +3,7 @@ pub mod Depending
 pub mod Storing
 pub mod Moves
 pub mod Turns
+pub mod Finishing
+pub mod Gathering
 pub mod Spreads
 pub mod Reaching

@@ -1,3 +1,4 @@
 pub mod Marks
 pub mod Walking
+pub mod Finishing
 pub mod Spreading

@@ -16,6 +16,7 @@ ghost use Rattle.symbols.specs.Graph.{Inside, Depends};
 ghost use Rattle.symbols.specs.Order.{Arranged, Looped};
 ghost use Rattle.formula.specs.Graph.{graphOf};
 
+pub mod gather;
 pub mod marks;
 pub mod spread;
 pub mod walk;

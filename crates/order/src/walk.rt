@@ -10,6 +10,7 @@ ghost use mathlib.Core.Path.{_≡_};
 ghost use Prim.Native.Nat.{_+_, _-_, _≤_, _<_};
 ghost use lib.ListN.{set};
 ghost use Rattle.formula.specs.Graph.{graphOf};
+ghost use Rattle.order.specs.Finishing.{ahead, Steady};
 ghost use Rattle.order.specs.Walking.{lookBy, moveOf, Small, Walking, spent, Turned};
 
 // The next id to begin at, how many nodes are open, and how many are done.
@@ -69,7 +70,7 @@ fn skip(w: Walk) -> Walk
 }
 
 // A node not met yet is opened.
-fn push(place: &mut [u32], stack: &mut [u32], w: Walk, id: SymbolId) -> Walk
+pub fn push(place: &mut [u32], stack: &mut [u32], w: Walk, id: SymbolId) -> Walk
     requires { ⌜ Small w ⌝ }
     ensures { λ r. ⌜ (now (place .exit) ≡ set (now (place .entry)) (id .0) 1) × (now (stack .exit) ≡ set (now (stack .entry)) (w .depth) (id .0)) × (r .next ≡ w .next) × (r .depth ≡ w .depth + 1) × (r .done ≡ w .done) ⌝ }
 {
@@ -96,8 +97,8 @@ fn pop(place: &mut [u32], order: &mut [u32], w: Walk, u: u32) -> Walk
     }
 }
 
-// One turn at the top of the stack.
-fn advance(
+// One turn at the top of the stack. What it leaves to list is what it found to list: `gather` rests on that.
+pub fn advance(
     file: &[u8],
     m: Formula,
     place: &mut [u32],
@@ -107,6 +108,7 @@ fn advance(
 ) -> Turn
     requires { ⌜ Walking (graphOf (now file) m) (now place) (now order) (now stack) w × (m .count ≤ 4000) × (0 < w .depth) ⌝ }
     ensures { λ r. ⌜ Turned (graphOf (now (file .entry)) m) (now (place .exit)) (now (order .exit)) (now (stack .exit)) (spent w + 1) r ⌝ }
+    ensures { λ r. ⌜ Steady (graphOf (now (file .entry)) m) (ahead (graphOf (now (file .entry)) m) (now (order .entry)) (now (stack .entry)) w) (now (order .exit)) (now (stack .exit)) r ⌝ }
 {
     let u = number_at(stack, w.depth - 1);
     match next_move(node_at(file, m, SymbolId(u)), place) {

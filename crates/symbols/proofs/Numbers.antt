@@ -5,13 +5,13 @@ use mathlib.Core.List.{List, [], _∷_}
 use lib.ListN.{getD}
 use Rattle.symbols.specs.Refusals.{numberOf, valuesOf}
 use Rattle.symbols.specs.declared.Refusal.{Refusal}
-use Rattle.symbols.specs.declared.Refusal.the-variants.{Size, Trailer, Span, Record, Order, Root, FixedRoot, Room, Words, Arity, NoInverse, Dry, Cycle}
+use Rattle.symbols.specs.declared.Refusal.the-variants.{Size, Trailer, Span, Record, Order, Root, FixedRoot, Room, Words, Arity, NoInverse, Dry, Cycle, Short}
 
 unfoldable pub refusalOf : ℕ → List ℕ → Refusal
 refusalOf n l =
     getD
     (Size ∷ Size ∷ Trailer ∷ Span ∷ Record record { 0 = getD l 0 0 } ∷ Order record { 0 = getD l 0 0 } ∷ Root ∷ FixedRoot ∷ Room ∷ Words ∷ Arity
-    ∷ NoInverse ∷ Dry ∷ Cycle record { 0 = getD l 0 0 } ∷ [])
+    ∷ NoInverse ∷ Dry ∷ Cycle record { 0 = getD l 0 0 } ∷ Short ∷ [])
     n Size
 
 pub told : (r : Refusal) → refusalOf (numberOf r) (valuesOf r) ≡ r
@@ -29,6 +29,7 @@ told Arity = refl
 told NoInverse = refl
 told Dry = refl
 told (Cycle i) = refl
+told Short = refl
 
 pub refusal-injective : (r s : Refusal) → numberOf r ≡ numberOf s → valuesOf r ≡ valuesOf s → r ≡ s
 refusal-injective r s e f = sym (told r) ∙ ap (λ (n : ℕ). refusalOf n (valuesOf r)) e ∙ ap (refusalOf (numberOf s)) f ∙ told s

@@ -12,7 +12,7 @@ use Rattle.symbols.proofs.Reaching.{reaches-is}
 use Rattle.symbols.proofs.Tests.{not-yes}
 
 -- of how many numbers below k the test holds
-unfoldable counted : (ℕ → Bool) → ℕ → ℕ
+unfoldable pub counted : (ℕ → Bool) → ℕ → ℕ
 counted p zero = 0
 counted p (suc k) = pick (p k) 1 0 + counted p k
 
@@ -29,12 +29,12 @@ less false false u v = absurd (true≢false (sym v))
 
 -- a test that holds only where another does, and not at some y where that one does
 module _ (p q : ℕ → Bool) where
-  no-more : (k : ℕ) → ((x : ℕ) → x < k → p x ≡ true → q x ≡ true) → counted p k ≤ counted q k
+  pub no-more : (k : ℕ) → ((x : ℕ) → x < k → p x ≡ true → q x ≡ true) → counted p k ≤ counted q k
   unfolding counted
   no-more zero h = omega arith
   no-more (suc k) h = omega (arith, at-most (p k) (q k) (h k (omega arith)), no-more k (λ x b. h x (omega arith)))
 
-  fewer : (k : ℕ) → ((x : ℕ) → x < k → p x ≡ true → q x ≡ true) → (y : ℕ) → y < k → p y ≡ false → q y ≡ true → counted p k < counted q k
+  pub fewer : (k : ℕ) → ((x : ℕ) → x < k → p x ≡ true → q x ≡ true) → (y : ℕ) → y < k → p y ≡ false → q y ≡ true → counted p k < counted q k
   unfolding counted
   fewer zero h y b u v = absurd (omega arith)
   fewer (suc k) h y b u v =
@@ -44,7 +44,7 @@ module _ (p q : ℕ → Bool) where
         | no e ↦ omega (arith, at-most (p k) (q k) (h k (omega arith)), fewer k h′ y (omega arith) u v)
       ]
 
-counted-all : (k : ℕ) → counted (λ x. true) k ≡ k
+pub counted-all : (k : ℕ) → counted (λ x. true) k ≡ k
 unfolding counted
 counted-all zero = refl
 counted-all (suc k) = let e = counted-all k in omega arith

@@ -1,10 +1,10 @@
--- Document 01, "Numbers of refusal", and 13 of Q-1: the number and the values of each case. Assumes nothing.
+-- Document 01, "Numbers of refusal", 13 of Q-1 and 14 of Q-2: the number and the values of each case. Assumes nothing.
 use Prim.Native.Nat.{ℕ}
 use mathlib.Core.List.{List, [], _∷_}
 use Rattle.symbols.specs.declared.Named.{Named}
 use Rattle.symbols.specs.declared.Named.the-variants as named
 use Rattle.symbols.specs.declared.Refusal.{Refusal}
-use Rattle.symbols.specs.declared.Refusal.the-variants.{Size, Trailer, Span, Record, Order, Root, FixedRoot, Room, Words, Arity, NoInverse, Dry, Cycle}
+use Rattle.symbols.specs.declared.Refusal.the-variants.{Size, Trailer, Span, Record, Order, Root, FixedRoot, Room, Words, Arity, NoInverse, Dry, Cycle, Short}
 
 abbrev pub numberOf : Refusal → ℕ
 numberOf Size = 1
@@ -20,6 +20,7 @@ numberOf Arity = 10
 numberOf NoInverse = 11
 numberOf Dry = 12
 numberOf (Cycle i) = 13
+numberOf Short = 14
 
 -- "A refusal returns its number (4 and 5 the id)"; Q-1: "13 Cycle(id) … printed like 5"
 abbrev pub valuesOf : Refusal → List ℕ
@@ -36,6 +37,7 @@ valuesOf Arity = []
 valuesOf NoInverse = []
 valuesOf Dry = []
 valuesOf (Cycle i) = i .0 ∷ []
+valuesOf Short = []
 
 -- the values that the code's answer names
 abbrev pub namedOf : Named → List ℕ

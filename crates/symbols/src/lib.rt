@@ -82,6 +82,7 @@ pub enum Refusal {
     NoInverse,
     Dry,
     Cycle(SymbolId),
+    Short,
 }
 
 // The values of a refusal: none, or an id.
@@ -108,6 +109,7 @@ impl Refusal {
             Refusal::NoInverse => 11,
             Refusal::Dry => 12,
             Refusal::Cycle(i) => 13,
+            Refusal::Short => 14,
         }
     }
 
@@ -128,6 +130,7 @@ impl Refusal {
             Refusal::NoInverse => Named::Nothing,
             Refusal::Dry => Named::Nothing,
             Refusal::Cycle(i) => Named::Id(i),
+            Refusal::Short => Named::Nothing,
         }
     }
 }

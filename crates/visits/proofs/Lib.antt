@@ -1,0 +1,4 @@
+pub mod Has
+pub mod Walk
+pub mod Listed
+pub mod Stack
