@@ -2,3 +2,4 @@ pub mod Out
 pub mod Files
 pub mod Rules
 pub mod Search
+pub mod Lists

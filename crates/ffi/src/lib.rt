@@ -5,6 +5,7 @@ ghost use Rattle.numbered.specs.Bitvec.{bitvecOp};
 ghost use Rattle.ffi.specs.Out.{written};
 
 pub mod files;
+pub mod lists;
 pub mod out;
 pub mod searching;
 pub mod single;

@@ -1,12 +1,11 @@
 -- How long what is printed can be: a first line has at most 85 bytes, a line of an input at most 54, or 48 where its id is below
--- 10,000, and a refusal at most 50. Assumes nothing.
+-- 10,000. Assumes nothing.
 use Prim.Native.Nat.{ℕ, suc, _+_, _^_, _≤_, _<_}
-use mathlib.Core.List.{List}
 use native.Mathlib.Omega.{arith}
 use lib.ListN.{length, length-append}
 use Rattle.text.proofs.Decimals.{decimal-length}
 use Rattle.search.specs.Machine.{End, solved, spent, ranDry, Out}
-use Rattle.report.specs.Report.{endWord, counts, firstLine, inputLine, spaced, refusalText}
+use Rattle.report.specs.Report.{endWord, counts, firstLine, inputLine}
 
 input-by : (k i l v : ℕ) → i < 10 ^ suc k → l < 2 ^ 64 → v < 2 ^ 64 → length (inputLine i l v) ≤ 45 + k
 unfolding inputLine
@@ -31,7 +30,3 @@ end-length ranDry = omega arith
 pub first-length : (o : Out) → o .rounds < 2 ^ 32 → o .lost < 2 ^ 32 → o .steps < 2 ^ 32 → o .words < 2 ^ 64 → length (firstLine o) ≤ 85
 unfolding firstLine
 first-length o r l s w = simp length-append (omega (arith, end-length (o .end), counts-length o r l s w))
-
-pub refusal-length : (k : ℕ) (is : List ℕ) → k < 2 ^ 64 → length (spaced is) ≤ 21 → length (refusalText k is) ≤ 50
-unfolding refusalText
-refusal-length k is h h' = simp length-append (omega (arith, decimal-length 19 k (omega arith)))

@@ -1,18 +1,15 @@
 -- One law for each `return`. Assumes nothing.
 use Prim.Native.Nat.{ℕ, _+_, _*_, _^_, _≤_, _<_}
 use mathlib.Core.Path.{_≡_}
-use mathlib.Core.List.{[], _∷_, _++_, append-nil}
+use mathlib.Core.List.{[], _++_}
 use native.Mathlib.Numerals.{add-one}
 use native.Mathlib.Omega.{arith}
 use lib.ListN.{length, length-append}
-use Rattle.text.specs.Text.{Text, Place, bytes, decimal, Wrote, WroteUpTo}
+use Rattle.text.specs.Text.{Text, Place, bytes, Wrote, WroteUpTo}
 use Rattle.text.proofs.Writing.{wrote-nothing, wrote-append}
-use Rattle.text.proofs.Decimals.{decimal-length}
 use Rattle.symbols.specs.Graph.{Id, Value, Graph}
-use Rattle.symbols.specs.Refusals.{numberOf, valuesOf, namedOf}
 use Rattle.symbols.specs.declared.SymbolId.{SymbolId}
 use Rattle.symbols.specs.declared.BVOperator.{BVOperator}
-use Rattle.symbols.specs.declared.Refusal.{Refusal}
 use Rattle.symbols.specs.declared.Refusal.the-variants as refusal
 use Rattle.bitvec.specs.declared.BitVector.{BitVector}
 use Rattle.formula.specs.File.{File}
@@ -25,10 +22,9 @@ use Rattle.turns.specs.Turn.{endOf, outOf}
 use Rattle.turns.specs.declared.End.{End}
 use Rattle.turns.specs.declared.End.the-variants.{Solved, Spent, Dry}
 use Rattle.turns.specs.declared.Outcome.{Outcome}
-use Rattle.report.specs.Report.{field, endWord, counts, firstLine, inputLine, lineOf, linesBelow, resultText, spaced, refusalText}
-use Rattle.symbols.specs.declared.Named.{Named}
+use Rattle.report.specs.Report.{field, endWord, counts, firstLine, inputLine, lineOf, linesBelow, resultText}
 use Rattle.symbols.specs.declared.Named.the-variants as named
-use Rattle.report.proofs.Lengths.{input-length, first-length, refusal-length}
+use Rattle.report.proofs.Lengths.{input-length, first-length}
 
 module _ (at n : Place) (o p : Text) where
   -- put_end
@@ -48,11 +44,6 @@ module _ (at n : Place) (o p : Text) where
     unfolding lineOf
     line-input l h w = rw h w
 
-  -- put_named
-  pub named-id : (x : Named) (i : SymbolId) → x ≡ named.Id i → i .0 < 2 ^ 32 → Wrote (field " " (i .0)) at o p n → WroteUpTo 21 (spaced (namedOf x)) at o p n
-  unfolding spaced
-  named-id x i h b w = rw (h, append-nil (decimal (i .0))) record { wrote = w; short = omega (arith, decimal-length 9 (i .0) (omega arith)) }
-
 module _ (at : Place) (o : Text) (fits : at < 2 ^ 64) where
   module _ (i : Id) (x : Node) (v : Value) where
     pub line-constant : (c : BitVector) → x ≡ node.Constant c → WroteUpTo 54 (lineOf i (nodeIs x) v) at o o at
@@ -66,17 +57,6 @@ module _ (at : Place) (o : Text) (fits : at < 2 ^ 64) where
     pub line-binary : (op : BVOperator) (a b : SymbolId) → x ≡ node.Binary op a b → WroteUpTo 54 (lineOf i (nodeIs x) v) at o o at
     unfolding lineOf
     line-binary op a b h = rw h record { wrote = wrote-nothing at o fits; short = omega arith }
-
-  pub named-nothing : (x : Named) → x ≡ named.Nothing → WroteUpTo 21 (spaced (namedOf x)) at o o at
-  unfolding spaced
-  named-nothing x h = rw h record { wrote = wrote-nothing at o fits; short = omega arith }
-
--- names
-pub names-record : (r : Refusal) (i : SymbolId) → r ≡ refusal.Record i → i .0 ∷ [] ≡ valuesOf r
-names-record r i h = rw h
-
-pub names-order : (r : Refusal) (i : SymbolId) → r ≡ refusal.Order i → i .0 ∷ [] ≡ valuesOf r
-names-order r i h = rw h
 
 module _ (at a b c d : Place) (o p q s t : Text) (fits : length o < 2 ^ 64) where
   -- put_input
@@ -94,16 +74,6 @@ module _ (at a b c : Place) (o p q s : Text) (fits : length o < 2 ^ 64) where
       → WroteUpTo 85 (firstLine (outOf x [])) at o s c
   unfolding firstLine
   first-line x hr hl hs hw u v w = record { wrote = wrote-append fits (wrote-append fits u v) w; short = first-length (outOf x []) hr hl hs hw }
-
-  -- refusal
-  pub refusal-line : (r : Refusal) (k : ℕ) (x : Named) → k < 2 ^ 64 → k ≡ numberOf r → namedOf x ≡ valuesOf r
-      → Wrote (field "refused " k) at o p a
-      → WroteUpTo 21 (spaced (namedOf x)) a p q b
-      → Wrote (bytes "\n") b q s c
-      → WroteUpTo 50 (refusalText (numberOf r) (valuesOf r)) at o s c
-  unfolding refusalText
-  refusal-line r k x hk ek ex u v w =
-      rw (← ek, ← ex) record { wrote = wrote-append fits (wrote-append fits u (v .wrote)) w; short = refusal-length k (namedOf x) hk (v .short) }
 
 -- put_counts
 pub four-counts : (x : Outcome) (at a b : Place) (o p q : Text) → length o < 2 ^ 64 → Wrote (field " rounds=" (x .rounds) ++ field " lost=" (x .lost)) at o p a → Wrote (field " steps=" (x .steps) ++ field " words=" (x .words)) a p q b

@@ -1,7 +1,7 @@
--- Document 01, "The program": what is printed. Assumes nothing.
+-- Document 01, "The program": what is printed of a search. Assumes nothing.
 use Prim.Native.Nat.{ℕ, zero, suc}
 use Prim.Native.String.{String}
-use mathlib.Core.List.{List, [], _∷_, _++_}
+use mathlib.Core.List.{[], _++_}
 use Rattle.text.specs.Text.{Text, bytes, decimal}
 use Rattle.symbols.specs.Graph.{Id, Value, Graph, Node, constant, input, unary, binary}
 use Rattle.search.specs.Machine.{Values, valueOf, End, solved, spent, ranDry, Out}
@@ -42,12 +42,3 @@ linesBelow g vs (suc k) = linesBelow g vs k ++ lineOf k (g .node k) (valueOf vs 
 
 unfoldable pub resultText : Graph → Out → Text
 resultText g o = firstLine o ++ linesBelow g (o .vals) (g .count)
-
--- numbers, each after a space
-unfoldable pub spaced : List ℕ → Text
-spaced [] = []
-spaced (v ∷ vs) = field " " v ++ spaced vs
-
--- "a refusal prints `refused N`, with the id after a space for 4 and 5": its number and its values
-unfoldable pub refusalText : ℕ → List ℕ → Text
-refusalText k is = field "refused " k ++ spaced is ++ bytes "\n"

@@ -1,8 +1,6 @@
-// What the program prints, into a lent buffer. No function here has a `requires`.
+// What the program prints of a search, into a lent buffer. No function here has a `requires`.
 use formula::Formula;
 use formula::Node;
-use symbols::Named;
-use symbols::Refusal;
 use symbols::SymbolId;
 use text::put_field;
 use text::put_text;
@@ -12,10 +10,9 @@ ghost use mathlib.Core.Path.{_≡_};
 ghost use Prim.Native.Nat.{_+_, _*_};
 ghost use mathlib.Core.List.{[], _++_};
 ghost use Rattle.text.specs.Text.{Wrote, WroteUpTo};
-ghost use Rattle.symbols.specs.Refusals.{numberOf, valuesOf, namedOf};
 ghost use Rattle.formula.specs.Graph.{graphOf, nodeIs};
 ghost use Rattle.turns.specs.Turn.{endOf, outOf};
-ghost use Rattle.report.specs.Report.{field, endWord, counts, firstLine, inputLine, lineOf, linesBelow, resultText, spaced, refusalText};
+ghost use Rattle.report.specs.Report.{field, endWord, counts, firstLine, inputLine, lineOf, linesBelow, resultText};
 
 fn put_end(out: &mut [u8], at: usize, e: End) -> usize
     ensures { λ r. ⌜ Wrote (endWord (endOf e)) at (now (out .entry)) (now (out .exit)) r ⌝ }
@@ -97,21 +94,4 @@ pub fn result(file: &[u8], m: Formula, o: Outcome, values: &[u64], out: &mut [u8
 {
     let n = put_first(out, 0, o);
     put_lines(out, n, file, m, values)
-}
-
-fn put_named(out: &mut [u8], at: usize, n: Named) -> usize
-    ensures { λ r. ⌜ WroteUpTo 21 (spaced (namedOf n)) at (now (out .entry)) (now (out .exit)) r ⌝ }
-{
-    match n {
-        Named::Nothing => at,
-        Named::Id(i) => put_field(out, at, b" ", i.0 as u64),
-    }
-}
-
-pub fn refusal(r: Refusal, out: &mut [u8]) -> usize
-    ensures { λ k. ⌜ WroteUpTo 50 (refusalText (numberOf r) (valuesOf r)) 0 (now (out .entry)) (now (out .exit)) k ⌝ }
-{
-    let a = put_field(out, 0, b"refused ", r.number());
-    let b = put_named(out, a, r.named());
-    put_text(out, b, b"\n")
 }

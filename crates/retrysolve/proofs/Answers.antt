@@ -37,7 +37,8 @@ use Rattle.solve.specs.declared.Answer.{Answer}
 use Rattle.solve.specs.declared.Answer.the-variants as result
 use Rattle.intake.specs.Words.{upTo, wordsOf, wordsBelow}
 use Rattle.intake.proofs.Words.{words-part}
-use Rattle.report.specs.Report.{resultText, refusalText}
+use Rattle.report.specs.Report.{resultText}
+use Rattle.refusals.specs.Line.{refusalText}
 use Rattle.retrysolve.specs.Printed.{budget, textOf, printedWith, printed}
 
 more : {j k : ℕ} {t : Text} {at n : Place} {o p : Text} → j ≤ k → WroteUpTo j t at o p n → WroteUpTo k t at o p n

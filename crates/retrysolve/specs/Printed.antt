@@ -12,7 +12,8 @@ use Rattle.checks.specs.Refusals.{verdict}
 use Rattle.rules.specs.One.{one}
 use Rattle.solve.specs.Solve.{Result, ended, refused, answer}
 use Rattle.intake.specs.Words.{wordsOf}
-use Rattle.report.specs.Report.{resultText, refusalText}
+use Rattle.report.specs.Report.{resultText}
+use Rattle.refusals.specs.Line.{refusalText}
 
 -- "budget 100,000"
 abbrev pub budget : ℕ

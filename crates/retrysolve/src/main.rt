@@ -3,6 +3,8 @@
 use checks::Checked;
 use formula::Formula;
 use formula::bytes::least;
+use graphfile::file_room;
+use graphfile::read_graph;
 use libc::STDIN_FILENO;
 use libc::STDOUT_FILENO;
 use solve::Answer;
@@ -14,17 +16,9 @@ ghost use Rattle.formula.specs.Graph.{graphOf};
 ghost use Rattle.rules.specs.One.{one};
 ghost use Rattle.solve.specs.Solve.{answer};
 ghost use Rattle.intake.specs.Words.{upTo, wordsOf};
-ghost use Rattle.io.specs.Counts.{Counts};
 ghost use Rattle.retrysolve.specs.Printed.{budget, textOf, printedWith, printed};
 
-// Buffers, of which callers need the length alone. A byte more than a graph file may have shows that it has more.
-fn file_room() -> [u8; 65537]
-    ensures { λ r. ⌜ 65537 ≡ length r ⌝ }
-{
-    [0; 65537]
-}
-
-// 4,096 words.
+// Buffers, of which callers need the length alone: 4,096 words.
 fn input_room() -> [u8; 32768]
     ensures { λ r. ⌜ 32768 ≡ length r ⌝ }
 {
@@ -56,7 +50,7 @@ fn answer_to(file: &[u8], m: Formula, words: &[u64], values: &mut [u64], out: &m
 {
     match solve::solve(file, words, 100000, values) {
         Answer::Ended(o) => report::result(file, m, o, values, out),
-        Answer::Refused(r) => report::refusal(r, out),
+        Answer::Refused(r) => refusals::refusal(r, out),
     }
 }
 
@@ -76,22 +70,9 @@ fn respond(file: &[u8], input: &[u8], out: &mut [u8]) -> usize
     ensures { λ r. ⌜ WroteUpTo 216085 (printed (now (file .entry)) (now (input .entry))) 0 (now (out .entry)) (now (out .exit)) r ⌝ }
 {
     match checks::check(file) {
-        Checked::Refused(r) => report::refusal(r, out),
+        Checked::Refused(r) => refusals::refusal(r, out),
         Checked::Accepted(m) => solve_it(file, m, input, out),
     }
-}
-
-// "A file that can't be opened counts as empty", and so does one that can't be read, as a folder.
-fn read_graph(buffer: &mut [u8]) -> usize
-    ensures { λ r. ⌜ Counts r (now (buffer .exit)) ⌝ }
-{
-    let fd = os::open_read(b"graph");
-    if fd < 0 {
-        return 0;
-    }
-    let n = io::read_full(fd, buffer);
-    libc::close(fd);
-    n
 }
 
 fn main() {

@@ -1,7 +1,7 @@
-use Rattle.report.proofs.Printing.{named-nothing, named-id}
+use Rattle.refusals.proofs.Printing.{named-nothing, named-id}
 use borrow.Author.Needs.{needs}
-use Rattle.report.proofs.put_named.Statement.{statement}
-use Rattle.report.proofs.put_named.Tie as tie
+use Rattle.refusals.proofs.put_named.Statement.{statement}
+use Rattle.refusals.proofs.put_named.Tie as tie
 
 pub put-named-spec : {M : Type 1} → statement M
 put-named-spec =

@@ -1,7 +1,7 @@
-use Rattle.report.proofs.Printing.{refusal-line}
+use Rattle.refusals.proofs.Printing.{refusal-line}
 use borrow.Author.Needs.{needs}
-use Rattle.report.proofs.refusal.Statement.{statement}
-use Rattle.report.proofs.refusal.Tie as tie
+use Rattle.refusals.proofs.refusal.Statement.{statement}
+use Rattle.refusals.proofs.refusal.Tie as tie
 
 pub refusal-spec : {M : Type 1} → statement M
 refusal-spec =

@@ -1,0 +1,21 @@
+use Rattle.retrylist.proofs.Answers.{page-part}
+use borrow.Author.Needs.{needs}
+use Rattle.retrylist.proofs.main.Statement.{statement}
+use Rattle.retrylist.proofs.main.Tie as tie
+
+pub main-spec : {M : Type 1} → statement M
+main-spec =
+    tie.close
+    (tie.spec
+    (λ c κs. search needs)
+    (λ c κs. search needs)
+    (λ c. search needs)
+    (λ c κs. search needs)
+    (λ c. search needs)
+    (λ c. search needs)
+    (λ c. search needs)
+    (λ c κs. search needs)
+    (λ c. search needs)
+    (λ c. search (page-part, needs))
+    (λ c κs. search needs)
+    (λ c. search needs))
