@@ -1,23 +1,38 @@
-//! Writes monster.rs, patched in two ways, and the lines that make modules of it.
+//! Writes monster.rs, patched in two ways, and the lines that make modules of it; and
+//! the listing, cut out of two other files.
 
+mod cuts;
 mod patches;
 
+use cuts::{Piece, ENGINE, LISTING, SOLVER};
 use patches::{Patch, TIMED, WATCHED};
 use std::{env, fs, path::Path};
 
 const ORIGINAL: &str = "../original/monster.rs";
 
 fn main() {
-    println!("cargo:rerun-if-changed={ORIGINAL}");
-    println!("cargo:rerun-if-changed=build.rs");
-    println!("cargo:rerun-if-changed=patches.rs");
+    for read in [
+        ORIGINAL,
+        ENGINE,
+        SOLVER,
+        "build.rs",
+        "cuts.rs",
+        "patches.rs",
+    ] {
+        println!("cargo:rerun-if-changed={read}");
+    }
 
-    let original = fs::read_to_string(ORIGINAL).expect("the original is part of the repository");
+    let original = read(ORIGINAL);
     let modules = [
         module("monster", &patch(&original, &WATCHED)),
         module("timed", &patch(&original, &TIMED)),
     ];
     write("modules.rs", &modules.concat());
+    write("listing.rs", &LISTING.iter().map(piece).collect::<String>());
+}
+
+fn read(original: &str) -> String {
+    fs::read_to_string(original).expect("the original is part of the repository")
 }
 
 /// Writes a module's text under the original's name, which a panic names, and
@@ -55,4 +70,24 @@ fn patch(original: &str, patches: &[Patch]) -> String {
         text = text.replacen(old, new, 1);
     }
     text
+}
+
+fn piece(piece: &Piece) -> String {
+    match piece {
+        Piece::Cut(original, from, to) => {
+            let text = read(original);
+            text[place(&text, from)..place(&text, to)].to_owned()
+        }
+        Piece::Rest(original, from) => {
+            let text = read(original);
+            text[place(&text, from)..].to_owned()
+        }
+        Piece::Written(text) => (*text).to_owned(),
+    }
+}
+
+/// Where the text stands, which is one place alone.
+fn place(original: &str, text: &str) -> usize {
+    assert_eq!(original.matches(text).count(), 1, "matches once: {text}");
+    original.find(text).expect("it matches")
 }

@@ -7,7 +7,7 @@ typedef unsigned int u32;
 typedef unsigned char u8;
 
 enum { READ = 0, WRITE = 1, EXIT = 231, MOST = 1 << 21 };
-enum { FILE, BITVEC, CHECK, WORDS, RULE, VALUES, STEP, SOLVE };
+enum { FILE, BITVEC, CHECK, WORDS, RULE, VALUES, STEP, SOLVE, LIST };
 
 /* What an unwritten entry holds, so that it is not taken for an answer. */
 static const u64 UNWRITTEN = 0xdeadbeefdeadbeef;
@@ -21,6 +21,8 @@ void step_op(const u8 *file, u64 file_len, const u64 *words, u64 words_len,
              u64 *out, u64 out_len);
 void solve_file(const u8 *file, u64 file_len, const u64 *words, u64 words_len, u32 budget,
                 u64 *values, u64 values_len, u64 *out, u64 out_len);
+void list_file(const u8 *file, u64 file_len, u8 *buffer, u64 buffer_len,
+               u64 *out, u64 out_len);
 
 /* No answer is more than three times as long as its message. */
 static u64 block[MOST], answers[1 + 3 * MOST], *end;
@@ -69,6 +71,15 @@ static void solve(u32 budget, u64 *lent, u64 lent_len)
         out[6 + i] = lent[i];
 }
 
+/* The buffer lies in the block, and may end within its last number. */
+static void list(u64 *buffer, u64 buffer_len, u64 count)
+{
+    u64 *out = room(2 + count);
+    list_file((const u8 *)file, file_len, (u8 *)buffer, buffer_len, out, 2);
+    for (u64 i = 0; i < count; i++)
+        out[2 + i] = buffer[i];
+}
+
 static void answer(u64 function, u64 *q, u64 count)
 {
     if (function == FILE)
@@ -88,6 +99,8 @@ static void answer(u64 function, u64 *q, u64 count)
                 q[0], q[1], q[2], room(6), 6);
     else if (function == SOLVE)
         solve(q[0], q + 1, count - 1);
+    else if (function == LIST)
+        list(q + 1, q[0], count - 1);
     else
         call(EXIT, 3, 0, 0);
 }

@@ -3,6 +3,7 @@
 mod bitvec;
 mod coverage;
 mod files;
+mod listing;
 mod numbers;
 mod record;
 mod replay;
@@ -16,12 +17,13 @@ fn main() {
     let equal = match command.as_str() {
         "bitvec" => bitvec::compare(),
         "files" => files::compare(),
+        "listing" => listing::compare(),
         "rules" => rules::compare(),
         "search" => search::compare(),
         "record" => record::record(),
         "replay" => replay::replay(),
         _ => {
-            eprintln!("usage: compare bitvec|files|rules|search|record|replay");
+            eprintln!("usage: compare bitvec|files|listing|rules|search|record|replay");
             std::process::exit(2);
         }
     };

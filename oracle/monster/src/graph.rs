@@ -12,7 +12,7 @@ pub enum Node {
 }
 
 impl Node {
-    fn symbol(&self) -> Symbol {
+    pub(crate) fn symbol(&self) -> Symbol {
         match self {
             Node::Constant(value) => Symbol::Constant(BitVector(*value)),
             Node::Input(label) => Symbol::Input(label.to_string()),

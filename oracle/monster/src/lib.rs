@@ -1,8 +1,9 @@
 //! The Monster solver's local search, as published, over a lent word list and a
-//! step budget, with every choice and every state to be seen.
+//! step budget, with every choice and every state to be seen; and its listing.
 
 mod clock;
 mod graph;
+mod listing;
 mod panics;
 mod release;
 mod rules;
@@ -19,6 +20,7 @@ include!(concat!(env!("OUT_DIR"), "/modules.rs"));
 
 pub use bitvec::BitVector;
 pub use graph::{Graph, Node};
+pub use listing::listing;
 pub use panics::{Known, Place};
 pub use release::refuse_other_builds;
 pub use rules::{consistent, inverse, table, unary, Answer};

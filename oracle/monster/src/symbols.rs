@@ -1,7 +1,7 @@
 //! The names of mod.rs that monster.rs imports, as much of each as it uses.
 
 use crate::BitVector;
-use std::{collections::HashMap, fmt, ops::Index};
+use std::{collections::HashMap, ops::Index};
 
 pub type Assignment = HashMap<SymbolId, BitVector>;
 
@@ -47,13 +47,6 @@ pub enum BVOperator {
 impl BVOperator {
     pub fn is_unary(&self) -> bool {
         *self == BVOperator::Not
-    }
-}
-
-/// Only the search's trace, which is off, prints an operator.
-impl fmt::Display for BVOperator {
-    fn fmt(&self, f: &mut fmt::Formatter) -> fmt::Result {
-        write!(f, "{self:?}")
     }
 }
 

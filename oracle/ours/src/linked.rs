@@ -1,7 +1,7 @@
 //! The static library, linked into this program.
 
 use crate::{
-    message::{BITVEC, CHECK, FILE, RULE, SOLVE, STEP, VALUES, WORDS},
+    message::{packed, BITVEC, CHECK, FILE, LIST, RULE, SOLVE, STEP, VALUES, WORDS},
     raw, Result,
 };
 
@@ -74,6 +74,21 @@ pub fn solve(file: &[u8], words: &[u64], budget: u32, values: &mut [u64]) -> Res
     out
 }
 
+fn list(file: &[u8], buffer: &mut [u8]) -> [u64; 2] {
+    let mut out = [UNWRITTEN; 2];
+    unsafe {
+        raw::list_file(
+            file.as_ptr(),
+            file.len(),
+            buffer.as_mut_ptr(),
+            buffer.len(),
+            out.as_mut_ptr(),
+            out.len(),
+        )
+    };
+    out
+}
+
 #[derive(Default)]
 struct Lent<'a> {
     file: Vec<u8>,
@@ -106,6 +121,11 @@ fn one<'a>(function: u64, asked: &'a mut [u64], lent: &mut Lent<'a>, answers: &m
         (SOLVE, [budget, values @ ..]) => {
             answers.extend(solve(&lent.file, lent.words, *budget as u32, values));
             answers.extend_from_slice(values);
+        }
+        (LIST, [length, buffer @ ..]) => {
+            let mut bytes = unpacked(buffer, 8 * buffer.len() as u64);
+            answers.extend(list(&lent.file, &mut bytes[..*length as usize]));
+            answers.extend(packed(&bytes));
         }
         _ => panic!("no such message"),
     }

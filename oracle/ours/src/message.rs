@@ -17,11 +17,15 @@ pub const VALUES: u64 = 5;
 pub const STEP: u64 = 6;
 /// A search on the lent file and words: the budget, and the values it is lent.
 pub const SOLVE: u64 = 7;
+/// A listing of the lent file: the buffer's length in bytes, and its bytes, eight to a
+/// number.
+pub const LIST: u64 = 8;
 
-/// The length of an answer; that of a search has the values behind it.
+/// The length of an answer; that of a search has the values behind it, that of a listing
+/// the buffer's bytes, eight to a number.
 pub fn width(function: u64) -> usize {
     match function {
-        BITVEC => 2,
+        BITVEC | LIST => 2,
         CHECK | RULE => 3,
         STEP | SOLVE => 6,
         _ => 0,

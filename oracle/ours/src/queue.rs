@@ -73,9 +73,16 @@ impl<T> Queue<T> {
         self.ask(asker, message::SOLVE, &parts, values.len());
     }
 
-    fn ask(&mut self, asker: T, function: u64, parts: &[&[u64]], values: usize) {
+    /// The answer has the buffer behind it, as the listing leaves it, eight bytes to a
+    /// number.
+    pub fn list(&mut self, asker: T, buffer: &[u8]) {
+        let (length, bytes) = ([buffer.len() as u64], packed(buffer));
+        self.ask(asker, message::LIST, &[&length, &bytes], bytes.len());
+    }
+
+    fn ask(&mut self, asker: T, function: u64, parts: &[&[u64]], lent: usize) {
         push(&mut self.block, function, parts);
-        self.asked.push((asker, message::width(function) + values));
+        self.asked.push((asker, message::width(function) + lent));
     }
 
     pub fn is_full(&self) -> bool {

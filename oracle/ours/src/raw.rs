@@ -43,4 +43,13 @@ extern "C" {
         out: *mut u64,
         out_len: usize,
     );
+
+    pub fn list_file(
+        file: *const u8,
+        file_len: usize,
+        buffer: *mut u8,
+        buffer_len: usize,
+        out: *mut u64,
+        out_len: usize,
+    );
 }

@@ -5,7 +5,7 @@ use crate::cycles::downward;
 use crate::file::{encode, graph, Graph, Node};
 use crate::limits::{every_kind, with_field, Random};
 use crate::operators::Operator::{Add, BitwiseAnd, Equals, Mul, Remu};
-use crate::program::prints;
+use crate::program::{lists, prints};
 use crate::M;
 
 /// What stands under the name `graph` when the program runs.
@@ -40,6 +40,17 @@ impl Example {
         }
     }
 
+    /// The exact standard output of `retrylist`, for those that show something of it.
+    pub fn listing(&self) -> Option<String> {
+        LISTED
+            .contains(&self.name.as_str())
+            .then(|| match &self.graph {
+                Given::File(bytes) => lists(Some(bytes)),
+                Given::Zeros(length) => lists(Some(&vec![0; *length])),
+                Given::Folder | Given::Missing => lists(None),
+            })
+    }
+
     /// The files of the folder, by name.
     pub fn files(&self) -> Vec<(&'static str, Vec<u8>)> {
         let mut files = Vec::new();
@@ -53,9 +64,30 @@ impl Example {
             files.push(("words", words.clone()));
         }
         files.push(("expected", self.expected().into()));
+        if let Some(listing) = self.listing() {
+            files.push(("listing", listing.into()));
+        }
         files
     }
 }
+
+/// The folders that `retrylist` is run on too.
+const LISTED: [&str; 14] = [
+    "collision",
+    "example",
+    "operators-first",
+    "refused",
+    "spent",
+    "cases/every-kind",
+    "cases/missing-file",
+    "cases/note",
+    "cases/refused-1-long",
+    "cases/refused-4-byte",
+    "cases/refused-7-two",
+    "cases/root-constant-1",
+    "cases/spent-long",
+    "cases/unreadable-file",
+];
 
 /// Every folder, the six first.
 pub fn all() -> Vec<Example> {
@@ -402,6 +434,11 @@ mod tests {
             );
             assert!(readme.contains(&example.expected()), "{}", example.name);
         }
+        let shown = |example: &Example| readme.contains(&example.listing().unwrap());
+        assert!(six()
+            .iter()
+            .filter(|one| one.name == "collision")
+            .all(shown));
         for example in all().iter().skip(six().len()) {
             let name = example.name.trim_start_matches("cases/");
             assert!(readme.contains(&format!("| `{name}` |")), "{name}");
@@ -417,6 +454,12 @@ mod tests {
             run.unwrap().words
         };
         assert_eq!((count(4_096), count(4_097)), (4_096, 4_097));
+    }
+
+    #[test]
+    fn each_listed_name_is_one_of_them() {
+        let listings = all().iter().filter_map(Example::listing).count();
+        assert_eq!(listings, LISTED.len());
     }
 
     #[test]

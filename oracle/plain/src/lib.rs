@@ -15,6 +15,7 @@ pub mod cycles;
 pub mod examples;
 pub mod file;
 pub mod limits;
+pub mod listing;
 pub mod operators;
 pub mod program;
 pub mod refusals;

@@ -36,6 +36,21 @@ impl Operator {
         self as u8
     }
 
+    /// The sign in a listing: "the source's Printer" writes the Display of mod.rs.
+    pub fn sign(self) -> char {
+        match self {
+            Operator::Add => '+',
+            Operator::Sub => '-',
+            Operator::Mul => '*',
+            Operator::Divu => '/',
+            Operator::Sltu => '<',
+            Operator::Remu => '%',
+            Operator::Not => '!',
+            Operator::Equals => '=',
+            Operator::BitwiseAnd => '&',
+        }
+    }
+
     /// "Byte 0 is the kind": the operator of a kind, none for 0, 1 and above 10.
     pub fn of(kind: u8) -> Option<Operator> {
         ALL.into_iter().find(|op| op.kind() == kind)

@@ -1,6 +1,7 @@
-//! Section "The program".
+//! Section "The program", and the program of Q-2.
 
 use crate::file::{check, Graph, Node};
+use crate::listing;
 use crate::search::{solve_unlogged, Outcome, Run};
 use crate::Refusal;
 
@@ -18,6 +19,12 @@ pub fn prints(file: Option<&[u8]>, stdin: &[u8]) -> String {
         Err(refusal) => refused(refusal),
         Ok((graph, run)) => solution(&graph, &run),
     }
+}
+
+/// What `retrylist` prints for the bytes of file `graph`: the listing, or the refusal
+/// as `retrysolve` prints it. Its buffer has room for every listing.
+pub fn lists(file: Option<&[u8]>) -> String {
+    listing::text(file.unwrap_or(&[])).unwrap_or_else(refused)
 }
 
 /// "up to 4,096 little-endian words of 8 bytes from standard input (a rest

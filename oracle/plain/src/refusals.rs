@@ -1,7 +1,7 @@
 //! Section "Numbers of refusal".
 
-/// "No. | Given exactly when": the twelve refusals in the table's order, and 13 of
-/// document 02, "after all records, before 6". "A refusal returns its number (4 and
+/// "No. | Given exactly when": the twelve refusals in the table's order, and of
+/// document 02 13, "after all records, before 6", and 14, "after 1 to 7 and 13". "A refusal returns its number (4 and
 /// 5 the id)".
 #[derive(Clone, Copy, Debug, PartialEq, Eq, PartialOrd, Ord)]
 pub enum Refusal {
@@ -32,6 +32,8 @@ pub enum Refusal {
     NoInverse,
     /// "12 Dry | a single value's words run out, or a range a..b with a > b is asked"
     Dry,
+    /// "14 Short, exactly when the listing is longer than the buffer"
+    Short,
 }
 
 impl Refusal {
@@ -51,6 +53,7 @@ impl Refusal {
             Refusal::Arity => 10,
             Refusal::NoInverse => 11,
             Refusal::Dry => 12,
+            Refusal::Short => 14,
         }
     }
 

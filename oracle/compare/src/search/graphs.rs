@@ -28,7 +28,7 @@ pub fn plan(random: &mut Random) -> Plan {
     under_new_ids(&nodes, root, &ids)
 }
 
-fn under_new_ids(nodes: &[Node], root: usize, ids: &[usize]) -> Plan {
+pub fn under_new_ids(nodes: &[Node], root: usize, ids: &[usize]) -> Plan {
     let mut moved = nodes.to_vec();
     for (id, node) in nodes.iter().enumerate() {
         moved[ids[id]] = renamed(*node, |operand| ids[operand]);

@@ -4,7 +4,8 @@ use super::{file, trace::Plan};
 use crate::coverage::Coverage;
 use monster::{End, Run};
 
-const KINDS: [&str; 11] = [
+/// By their numbers in the graph file.
+pub const KINDS: [&str; 11] = [
     "Constant",
     "Input",
     "Add",

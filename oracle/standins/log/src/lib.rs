@@ -1,4 +1,20 @@
-//! Logging that is always off; its arguments are still type-checked.
+//! Tracing that is always off; its arguments are still type-checked. What is said by
+//! `debug!` is kept, a line each.
+
+use std::cell::RefCell;
+
+thread_local! {
+    static LINES: RefCell<Vec<String>> = const { RefCell::new(Vec::new()) };
+}
+
+pub fn say(line: String) {
+    LINES.with_borrow_mut(|lines| lines.push(line));
+}
+
+/// What was said since it was asked last.
+pub fn take() -> Vec<String> {
+    LINES.take()
+}
 
 pub enum Level {
     Trace,
@@ -17,5 +33,12 @@ macro_rules! trace {
         if false {
             let _ = format_args!($($argument)*);
         }
+    };
+}
+
+#[macro_export]
+macro_rules! debug {
+    ($($argument:tt)*) => {
+        $crate::say(format!($($argument)*))
     };
 }
