@@ -1,7 +1,7 @@
 -- Laws of `settle` and of the start: all that the crates above use of them. Assumes nothing.
 use Prim.Native.Nat.{ℕ, zero, suc, _≤_, _<_, _^_}
 use mathlib.Core.Path.{_≡_, refl, sym, ap, subst, _∙_}
-use mathlib.Core.Logic.{inl, inr}
+use mathlib.Core.Logic.{_⊎_, inl, inr}
 use native.Mathlib.Omega.{arith}
 use native.Mathlib.Decide.{ℕ-discrete, decLe}
 use lib.Dec.{eqb}
@@ -11,6 +11,9 @@ use Rattle.bitvec.specs.Word.{isZero}
 use Rattle.words.specs.Words.{Words}
 use Rattle.words.proofs.Draws.{Small}
 use Rattle.symbols.specs.Graph.{Id, Value, Node, constant, input, unary, binary, Graph, Operand}
+use Rattle.symbols.specs.Width.{fits}
+use Rattle.symbols.proofs.Fitting.{bits-old, cut-fits, cut-below, word-64}
+use Rattle.symbols.specs.declared.Port.{Port}
 use Rattle.symbols.specs.Order.{Acyclic}
 use Rattle.symbols.specs.Operators.{apply}
 use Rattle.search.specs.Machine.{Values, valueOf}
@@ -207,7 +210,7 @@ module _ (g : Graph) where
     unfolding startOf startFrom
     start-length = settle-length g _
 
-    -- a leaf has its first value: a constant its own, an input its word
+    -- a leaf has its first value: a constant its own, an input its word cut to its width
     pub start-leaf : (i : Id) → i < g .count → Leaf (g .node i) → valueOf (startOf g ws) i ≡ firstOf g ws i
     unfolding startOf startFrom
     start-leaf i p l = settle-leaf g _ i p l ∙ given-is (g .count) blank (omega (arith, blank-long)) i p
@@ -217,16 +220,20 @@ module _ (g : Graph) where
     unfolding startOf startFrom
     start-right acyclic = settle-right g acyclic _
 
-    -- constants have their value, inputs their word, and every operator is right
+    -- constants have their value, inputs their word cut to their width, and every operator is right
     right-by : (n : Node) (i : Id) (vs : Values) → (Leaf n → valueOf vs i ≡ firstBy n ws (wantedUpTo g i)) → valueOf vs i ≡ worked n (valueOf vs i) (valueOf vs) → solution.Right n (valueOf vs) i
     right-by (constant c) i vs l r = l tt
-    right-by (input v) i vs l r = tt
+    right-by (input p) i vs l r = ap (fits p) (l tt) ∙ cut-fits p (getD ws (wantedUpTo g i) 0)
     right-by (unary a) i vs l r = r
     right-by (binary o a b) i vs l r = r
 
+    -- Q-3, "so old files mean the same": at width bytes 0 and 64 an input's first value is its word
+    pub first-old : (p : Port) (k : ℕ) → Small ws → (p .width ≡ 0) ⊎ (p .width ≡ 64) → firstBy (input p) ws k ≡ getD ws k 0
+    first-old p k w h = word-64 p (getD ws k 0) (w k) (bits-old p h)
+
     first-below : (n : Node) (i : Id) → Small ws → ((c : Value) → n ≡ constant c → c < 2 ^ 64) → firstBy n ws (wantedUpTo g i) < 2 ^ 64
     first-below (constant c) i w b = b c refl
-    first-below (input v) i w b = w (wantedUpTo g i)
+    first-below (input p) i w b = cut-below p (getD ws (wantedUpTo g i) 0) (w (wantedUpTo g i))
     first-below (unary a) i w b = w (wantedUpTo g i)
     first-below (binary o x y) i w b = w (wantedUpTo g i)
 

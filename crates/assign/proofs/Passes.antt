@@ -1,5 +1,5 @@
 -- The start and the pass as the code meets them: one law for each `return` and each turn of a loop. Assumes nothing.
-use Prim.Native.Nat.{ℕ, _+_, _≤_}
+use Prim.Native.Nat.{ℕ, _+_, _%_, _≤_}
 use mathlib.Core.Path.{_≡_, refl, sym, ap, _∙_}
 use mathlib.Core.List.{List}
 use native.Mathlib.Omega.{arith}
@@ -9,7 +9,9 @@ use Rattle.bitvec.specs.Word.{isZero}
 use Rattle.bitvec.specs.declared.BitVector.{BitVector}
 use Rattle.words.specs.Words.{Words}
 use Rattle.symbols.specs.Graph.{Id, Graph}
+use Rattle.symbols.specs.Width.{room}
 use Rattle.symbols.specs.Operators.{apply}
+use Rattle.symbols.specs.declared.Port.{Port}
 use Rattle.symbols.specs.declared.SymbolId.{SymbolId}
 use Rattle.symbols.specs.declared.BVOperator.{BVOperator}
 use Rattle.formula.specs.File.{File}
@@ -31,8 +33,8 @@ module _ (n : Node) (i : Id) (vs : Values) (r : ℕ) where
   pub work-constant : (v : BitVector) → n ≡ node.Constant v → r ≡ getD vs i 0 → r ≡ worked (nodeIs n) (getD vs i 0) (valueOf vs)
   work-constant v e h = made (λ (x : Node). worked (nodeIs x) (getD vs i 0) (valueOf vs)) n _ r e h
 
-  pub work-input : (l : ℕ) → n ≡ node.Input l → r ≡ getD vs i 0 → r ≡ worked (nodeIs n) (getD vs i 0) (valueOf vs)
-  work-input l e h = made (λ (x : Node). worked (nodeIs x) (getD vs i 0) (valueOf vs)) n _ r e h
+  pub work-input : (p : Port) → n ≡ node.Input p → r ≡ getD vs i 0 → r ≡ worked (nodeIs n) (getD vs i 0) (valueOf vs)
+  work-input p e h = made (λ (x : Node). worked (nodeIs x) (getD vs i 0) (valueOf vs)) n _ r e h
 
   pub work-unary : (a : SymbolId) (x : ℕ) → n ≡ node.Unary a → x ≡ getD vs (a .0) 0 → r ≡ isZero x → r ≡ worked (nodeIs n) (getD vs i 0) (valueOf vs)
   work-unary a x e hx h = made (λ (z : Node). worked (nodeIs z) (getD vs i 0) (valueOf vs)) n _ r e (h ∙ ap isZero hx)
@@ -43,8 +45,8 @@ module _ (n : Node) (i : Id) (vs : Values) (r : ℕ) where
       made (λ (z : Node). worked (nodeIs z) (getD vs i 0) (valueOf vs)) n _ r e (h ∙ ap (λ (z : ℕ). apply o z y) hx ∙ ap (apply o (getD vs (a .0) 0)) hy)
 
 module _ (n : Node) (ws : Words) (k r : ℕ) where
-  pub first-input : (l : ℕ) → n ≡ node.Input l → r ≡ getD ws k 0 → r ≡ firstBy (nodeIs n) ws k
-  first-input l e h = made (λ (x : Node). firstBy (nodeIs x) ws k) n _ r e h
+  pub first-input : (p : Port) (w : ℕ) → n ≡ node.Input p → w ≡ getD ws k 0 → r ≡ w % room p → r ≡ firstBy (nodeIs n) ws k
+  first-input p w e hw h = made (λ (x : Node). firstBy (nodeIs x) ws k) n _ r e (h ∙ ap (λ (x : ℕ). x % room p) hw)
 
   pub first-unary : (a : SymbolId) → n ≡ node.Unary a → r ≡ getD ws k 0 → r ≡ firstBy (nodeIs n) ws k
   first-unary a e h = made (λ (x : Node). firstBy (nodeIs x) ws k) n _ r e h

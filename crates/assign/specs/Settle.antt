@@ -11,7 +11,7 @@ use Rattle.search.specs.Machine.{Values, valueOf}
 -- their own
 abbrev pub worked : Node → Value → (Id → Value) → Value
 worked (constant c) own v = own
-worked (input l) own v = own
+worked (input p) own v = own
 worked (unary a) own v = isZero (v a)
 worked (binary o a b) own v = apply o (v a) (v b)
 

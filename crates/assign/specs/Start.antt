@@ -1,17 +1,18 @@
 -- Document 01, "Choice, round, search": "Start: each non-constant id, upward, takes a word; then operators are worked out from their
 -- operands." Assumes nothing.
-use Prim.Native.Nat.{ℕ, zero, suc, _+_}
+use Prim.Native.Nat.{ℕ, zero, suc, _+_, _%_}
 use mathlib.Core.List.{List}
 use lib.ListN.{getD, set, replicate}
 use Rattle.words.specs.Words.{Words, Place}
 use Rattle.symbols.specs.Graph.{Id, Value, Node, constant, input, unary, binary, Graph}
+use Rattle.symbols.specs.Width.{room}
 use Rattle.search.specs.Machine.{Values}
 use Rattle.assign.specs.Settle.{settle, along}
 
 -- "each non-constant id … takes a word"
 abbrev pub takes : Node → ℕ
 takes (constant c) = 0
-takes (input l) = 1
+takes (input p) = 1
 takes (unary a) = 1
 takes (binary o a b) = 1
 
@@ -24,10 +25,10 @@ wantedUpTo g (suc k) = wantedUpTo g k + takes (g .node k)
 unfoldable pub wanted : Graph → ℕ
 wanted g = wantedUpTo g (g .count)
 
--- a node's first value, with its word at n
+-- a node's first value, with its word at n; Q-3: "The starting word is taken modulo 2^width."
 abbrev pub firstBy : Node → Words → Place → Value
 firstBy (constant c) ws n = c
-firstBy (input l) ws n = getD ws n 0
+firstBy (input p) ws n = getD ws n 0 % room p
 firstBy (unary a) ws n = getD ws n 0
 firstBy (binary o a b) ws n = getD ws n 0
 

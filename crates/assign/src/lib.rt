@@ -59,7 +59,7 @@ pub fn work_out(n: Node, id: SymbolId, values: &[u64]) -> BitVector
 {
     match n {
         Node::Constant(v) => value_at(values, id),
-        Node::Input(l) => value_at(values, id),
+        Node::Input(p) => value_at(values, id),
         Node::Unary(a) => value_at(values, a).is_zero(),
         Node::Binary(op, a, b) => evaluate(op, value_at(values, a), value_at(values, b)),
     }
@@ -113,7 +113,7 @@ fn takes(n: Node) -> u32
 {
     match n {
         Node::Constant(v) => 0,
-        Node::Input(l) => 1,
+        Node::Input(p) => 1,
         Node::Unary(a) => 1,
         Node::Binary(op, a, b) => 1,
     }
@@ -151,13 +151,13 @@ fn first_value(n: Node, words: &[u64], at: u32) -> BitVector
 {
     match n {
         Node::Constant(v) => v,
-        Node::Input(l) => word_at(words, at),
+        Node::Input(p) => p.cut(word_at(words, at)),
         Node::Unary(a) => word_at(words, at),
         Node::Binary(op, a, b) => word_at(words, at),
     }
 }
 
-// The first values: constants have their own, every other node takes a word.
+// The first values: constants have their own, every other node takes a word, an input modulo 2^width.
 fn give(file: &[u8], m: Formula, words: &[u64], values: &mut [u64])
     ensures { λ _. ⌜ now (values .exit) ≡ givenUpTo (graphOf (now (file .entry)) m) (now (words .entry)) (m .count) (now (values .entry)) ⌝ }
 {

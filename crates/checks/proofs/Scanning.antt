@@ -15,7 +15,7 @@ use Rattle.symbols.specs.declared.Refusal.{Refusal}
 use Rattle.symbols.specs.declared.Refusal.the-variants as refusal
 use Rattle.formula.specs.File.{File, Record, le32, trailerOf, distanceOf, recordAt}
 use Rattle.formula.specs.Graph.{kindOf, nodeBy, nodeOf, graphOf, nodeIs}
-use Rattle.checks.specs.Refusals.{unknown, clean, badRecord, outside, fixed, Rows, headRows, rowsOf, recordRows, rootRows}
+use Rattle.checks.specs.Refusals.{unknown, clean, wide, badRecord, outside, fixed, Rows, headRows, rowsOf, recordRows, rootRows}
 use Rattle.formula.specs.declared.Formula.{Formula}
 use Rattle.formula.specs.declared.Kind.{Kind}
 use Rattle.formula.specs.declared.Node.{Node}
@@ -79,17 +79,21 @@ module _ (f : File) where
       head-clear h = first-next _ _ _ _ _ size (first-next _ _ _ _ _ (sym bad ∙ trailer) (first-next _ _ _ _ _ (sym far ∙ h) (first-none _)))
 
 -- the two rows of a record
-module _ (r : List ℕ) (w : ℕ) (i : SymbolId) (k : Kind) (u b : Bool) (hk : k ≡ kindOf r) (hu : u ≡ unknown k) (hb : b ≡ clean k r) where
-  held : (u || not b) ≡ badRecord r
-  held = rw (hu, hb, hk)
+module _ (r : List ℕ) (w : ℕ) (i : SymbolId) (k : Kind) (u b : Bool) (hk : k ≡ kindOf r) (hu : u ≡ unknown k) (hb : b ≡ clean k r)
+    (n : Node) (t : Bool) (hn : nodeIs n ≡ nodeBy k r) (ht : t ≡ wide (nodeIs n)) where
+  node-of : nodeIs n ≡ nodeOf r
+  node-of = hn ∙ ap (λ (x : Kind). nodeBy x r) hk
 
-  pub record-bad : (u || not b) ≡ true → Refuse (refusal.Record i) ≡ first (rowsOf r w (i .0)) Clear
+  held : (u || not b || t) ≡ badRecord r
+  held = rw (hu, hb, ht, node-of, hk)
+
+  pub record-bad : (u || not b || t) ≡ true → Refuse (refusal.Record i) ≡ first (rowsOf r w (i .0)) Clear
   unfolding rowsOf
   record-bad h = first-here _ _ _ _ (sym held ∙ h)
 
-  module _ (good : (u || not b) ≡ false) (n : Node) (o : Bool) (hn : nodeIs n ≡ nodeBy k r) (ho : o ≡ outside w (nodeIs n)) where
+  module _ (good : (u || not b || t) ≡ false) (o : Bool) (ho : o ≡ outside w (nodeIs n)) where
     out : o ≡ outside w (nodeOf r)
-    out = ho ∙ ap (outside w) (hn ∙ ap (λ (x : Kind). nodeBy x r) hk)
+    out = ho ∙ ap (outside w) node-of
 
     pub record-order : o ≡ true → Refuse (refusal.Order i) ≡ first (rowsOf r w (i .0)) Clear
     unfolding rowsOf

@@ -1,4 +1,4 @@
--- Document 01, "Numbers of refusal", 1 to 7, and 13 of Q-1: the checks of a graph file, in the papers' order. Assumes nothing.
+-- Document 01, "Numbers of refusal", 1 to 7, with 13 of Q-1 and the width of Q-3: the checks of a graph file, in the papers' order. Assumes nothing.
 use Prim.Native.Nat.{ℕ, zero, suc, _+_, _-_, _%_}
 use mathlib.Core.List.{List, [], _∷_, _++_}
 use mathlib.Core.Bool.{Bool, true, false, not, _&&_, _||_}
@@ -41,29 +41,36 @@ unknown Unary = false
 unknown (Binary o) = false
 unknown Unknown = true
 
--- "All other bytes are zero": those that a record of each kind leaves unused
+-- "All other bytes are zero": those that a record of each kind leaves unused; Q-3: byte 4 of an input is its width
 abbrev pub clean : Kind → file.Record → Bool
 clean Constant r = zeros r 1 7
-clean Input r = zeros r 1 7
+clean Input r = zeros r 1 3 && zeros r 5 3
 clean Unary r = zeros r 1 3 && zeros r 8 8
 clean (Binary o) r = zeros r 1 3 && zeros r 12 4
 clean Unknown r = true
 
--- "unknown kind or a non-zero byte that must be zero"
+-- "a width above 64"
+abbrev pub wide : Node → Bool
+wide (constant v) = false
+wide (input p) = ltb 64 (p .width)
+wide (unary a) = false
+wide (binary o a b) = false
+
+-- "unknown kind or a non-zero byte that must be zero"; Q-3: "4 also for a width above 64"
 abbrev pub badRecord : file.Record → Bool
-badRecord r = unknown (kindOf r) || not (clean (kindOf r) r)
+badRecord r = unknown (kindOf r) || not (clean (kindOf r) r) || wide (nodeOf r)
 
 -- Q-1: "5 now means an operand id not below n"
 abbrev pub outside : ℕ → Node → Bool
 outside n (constant v) = false
-outside n (input l) = false
+outside n (input p) = false
 outside n (unary a) = leb n a
 outside n (binary o a b) = leb n a || leb n b
 
 -- "root is a constant other than 1"
 abbrev pub fixed : Node → Bool
 fixed (constant v) = not (eqb v 1)
-fixed (input l) = false
+fixed (input p) = false
 fixed (unary a) = false
 fixed (binary o a b) = false
 

@@ -21,7 +21,7 @@ ghost use Rattle.symbols.specs.Order.{Arranged};
 ghost use Rattle.formula.specs.File.{trailerOf, formulaOf};
 ghost use Rattle.formula.specs.Graph.{nodeIs, graphOf};
 ghost use Rattle.formula.specs.declared.Formula.{Formula};
-ghost use Rattle.checks.specs.Refusals.{unknown, clean, outside, fixed, headRows, rowsOf, recordRows, cycleRows, rootRows, bodyRows, answerOf, verdict};
+ghost use Rattle.checks.specs.Refusals.{unknown, clean, wide, outside, fixed, headRows, rowsOf, recordRows, cycleRows, rootRows, bodyRows, answerOf, verdict};
 ghost use Rattle.checks.specs.declared.Finding.the-variants.{Clear};
 ghost use Rattle.checks.specs.declared.Checked.the-variants.{Accepted};
 
@@ -78,10 +78,22 @@ fn is_clean(k: Kind, r: &[u8]) -> bool
 {
     match k {
         Kind::Constant => all_zero(r, 1, 7),
-        Kind::Input => all_zero(r, 1, 7),
+        Kind::Input => all_zero(r, 1, 3) & all_zero(r, 5, 3),
         Kind::Unary => all_zero(r, 1, 3) & all_zero(r, 8, 8),
         Kind::Binary(op) => all_zero(r, 1, 3) & all_zero(r, 12, 4),
         Kind::Unknown => true,
+    }
+}
+
+// Whether it is an input of more than 64 bits.
+fn is_wide(n: Node) -> bool
+    ensures { λ b. ⌜ b ≡ wide (nodeIs n) ⌝ }
+{
+    match n {
+        Node::Constant(v) => false,
+        Node::Input(p) => 64 < p.width,
+        Node::Unary(a) => false,
+        Node::Binary(op, a, b) => false,
     }
 }
 
@@ -91,7 +103,7 @@ fn is_outside(n: u32, node: Node) -> bool
 {
     match node {
         Node::Constant(v) => false,
-        Node::Input(l) => false,
+        Node::Input(p) => false,
         Node::Unary(a) => n <= a.0,
         Node::Binary(op, a, b) => (n <= a.0) | (n <= b.0),
     }
@@ -103,7 +115,7 @@ fn is_fixed(n: Node) -> bool
 {
     match n {
         Node::Constant(v) => v.0 != 1,
-        Node::Input(l) => false,
+        Node::Input(p) => false,
         Node::Unary(a) => false,
         Node::Binary(op, a, b) => false,
     }
@@ -131,10 +143,11 @@ fn check_record(r: &[u8], n: u32, id: SymbolId) -> Finding
     ensures { λ f. ⌜ f ≡ first (rowsOf (now (r .entry)) n (id .0)) Clear ⌝ }
 {
     let k = record_kind(r);
-    if is_unknown(k) | !is_clean(k, r) {
+    let node = decode(k, r);
+    if is_unknown(k) | !is_clean(k, r) | is_wide(node) {
         return Finding::Refuse(Refusal::Record(id));
     }
-    if is_outside(n, decode(k, r)) {
+    if is_outside(n, node) {
         return Finding::Refuse(Refusal::Order(id));
     }
     Finding::Clear

@@ -18,7 +18,7 @@ use Rattle.monster.specs.Step.{essential, sides, wayAt, alongWay, stepFrom}
 use Rattle.solve.specs.Solve.{ended, lentRows, onGraph, answer}
 use Rattle.demands.specs.Call.{roundsIn}
 use Rattle.demands.specs.Cases as cases
-use Rattle.demands.specs.Cases.{ones, pairFile, pairWords, pairFirst, pairSecond, pairOut, quotientFile, quotientRound, truthFile, truthRound, notFile, notRound, twiceFile, twiceRound, sumFile, sumRound}
+use Rattle.demands.specs.Cases.{ones, pairFile, pairWords, pairFirst, pairSecond, pairOut, quotientFile, quotientRound, truthFile, truthRound, notFile, notRound, twiceFile, twiceRound, sumFile, sumRound, narrowFile, narrowWords, narrowRound}
 
 -- two rounds: the first misses, the second solves
 pub pair-answer : answer one pairFile pairWords 8 (ones 8) ≡ ended pairOut
@@ -69,3 +69,12 @@ sum-answer = refl
 pub sum-rounds : roundsIn sumFile cases.zeros 2 ≡ sumRound ∷ []
 unfolding first drawAt rangeAt coinAt choosingAt twoFrom twoAt untilNot notAt le32 le64 zeros trailerOf formulaOf recordAt kindNo graphOf round reached tableSays invertAt valueAt inverseAt consistentAt hindersOne worth eachBelow settle wantedUpTo wanted firstOf givenUpTo startFrom startOf essential sides wayAt alongWay stepFrom roundsFrom rootRounds roundsOf
 sum-rounds = refl
+
+-- Q-3: "A round that brings a target of 2^width or more is a lost round."
+pub narrow-answer : answer one narrowFile narrowWords 1 (ones 3) ≡ ended record { end = spent; rounds = 1; lost = 1; steps = 1; words = 4; vals = narrowRound .after }
+unfolding first drawAt rangeAt coinAt choosingAt twoFrom twoAt untilNot notAt le32 le64 zeros trailerOf formulaOf recordAt kindNo graphOf reachesBelow reaches headRows rowsOf recordRows cycleRows rootRows bodyRows checks verdict round reached stepped turnOf runFrom fromRoot searchOf tableSays invertAt valueAt inverseAt consistentAt hindersOne worth eachBelow settle wantedUpTo wanted firstOf givenUpTo startFrom startOf essential sides wayAt alongWay stepFrom lentRows onGraph answer
+narrow-answer = refl
+
+pub narrow-rounds : roundsIn narrowFile narrowWords 1 ≡ narrowRound ∷ []
+unfolding first drawAt rangeAt coinAt choosingAt twoFrom twoAt untilNot notAt le32 le64 zeros trailerOf formulaOf recordAt kindNo graphOf round reached tableSays invertAt valueAt inverseAt consistentAt hindersOne worth eachBelow settle wantedUpTo wanted firstOf givenUpTo startFrom startOf essential sides wayAt alongWay stepFrom roundsFrom rootRounds roundsOf
+narrow-rounds = refl

@@ -1,11 +1,12 @@
 -- A bigger allowance keeps the answer: a call that is solved is answered alike with a bigger budget and more words. Assumes nothing.
-use Prim.Native.Nat.{ℕ, zero, suc, _+_, _≤_}
+use Prim.Native.Nat.{ℕ, zero, suc, _+_, _%_, _≤_}
 use mathlib.Core.Path.{_≡_, refl, sym, ap, _∙_}
 use mathlib.Core.List.{_++_}
 use native.Mathlib.Omega.{arith}
 use lib.ListN.{length, set, replicate, length-append, List·getD-append}
 use Rattle.words.specs.Words.{Words, Place}
 use Rattle.symbols.specs.Graph.{Node, constant, input, unary, binary, Graph}
+use Rattle.symbols.specs.Width.{room}
 use Rattle.formula.specs.File.{File}
 use Rattle.search.specs.Machine.{Values, solved, Out, searchOf}
 use Rattle.search.proofs.Longer.{search-longer}
@@ -22,7 +23,7 @@ use Rattle.demands.proofs.Numbers.{given-none}
 -- the start looks at no word past those that it takes
 first-longer : (n : Node) (ws us : Words) (m : Place) → m + takes n ≤ length ws → firstBy n (ws ++ us) m ≡ firstBy n ws m
 first-longer (constant c) ws us m h = refl
-first-longer (input l) ws us m h = List·getD-append ws us 0 m (omega arith)
+first-longer (input p) ws us m h = ap (λ (w : ℕ). w % room p) (List·getD-append ws us 0 m (omega arith))
 first-longer (unary a) ws us m h = List·getD-append ws us 0 m (omega arith)
 first-longer (binary o a b) ws us m h = List·getD-append ws us 0 m (omega arith)
 

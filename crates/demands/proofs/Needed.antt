@@ -24,10 +24,10 @@ use Rattle.solve.specs.Solve.{ended, answer}
 use Rattle.lawful.specs.Owed.{falseKinds}
 use Rattle.demands.specs.Call.{Lent, Accepted, graphIn}
 use Rattle.demands.specs.Cases as cases
-use Rattle.demands.specs.Cases.{ones, pairFile, pairWords, pairFirst, pairSecond, pairOut, quotientFile, quotientRound, truthFile, truthRound, notFile, notRound, twiceFile, twiceRound, sumFile, sumRound, Missed, Inverses, Honest, PassedBy}
+use Rattle.demands.specs.Cases.{ones, pairFile, pairWords, pairFirst, pairSecond, pairOut, quotientFile, quotientRound, truthFile, truthRound, notFile, notRound, twiceFile, twiceRound, sumFile, sumRound, narrowFile, narrowWords, narrowRound, Missed, Inverses, Honest, PassedBy, TargetFits}
 use Rattle.demands.proofs.Numbers.{given-none}
 use Rattle.demands.proofs.Whole.{demand-3}
-use Rattle.demands.proofs.Cases.{pair-answer, pair-rounds, quotient-answer, quotient-rounds, truth-answer, truth-rounds, not-answer, not-rounds, twice-answer, twice-rounds, sum-answer, sum-rounds}
+use Rattle.demands.proofs.Cases.{pair-answer, pair-rounds, quotient-answer, quotient-rounds, truth-answer, truth-rounds, not-answer, not-rounds, twice-answer, twice-rounds, sum-answer, sum-rounds, narrow-answer, narrow-rounds}
 
 -- a list of numbers below m
 abbrev within : ℕ → List ℕ → Bool
@@ -95,6 +95,9 @@ four p q r s = more _ _ p (more _ _ q (more _ _ r (more _ _ s none)))
 two : {A : Taken → Type 0} {a b : Taken} → A a → A b → All A (a ∷ b ∷ [])
 two p q = more _ _ p (more _ _ q none)
 
+one-step : {A : Taken → Type 0} {a : Taken} → A a → All A (a ∷ [])
+one-step p = more _ _ p none
+
 -- the second round meets all premises: two Nots, Equals, which passes y + 3 by, and Add
 pub pair-lent : Lent pairFile pairWords
 pair-lent = lent pairFile pairWords refl refl
@@ -118,6 +121,7 @@ pair-fair = record {
   inverses = four tt tt tt tt;
   honest = four add-honest equals-honest (λ h. omega arith) (λ h. omega arith);
   passed = four constant-free sum-free tt tt;
+  fits = refl;
 }
 
 -- so demand 3 says of it what is computed: solved there, with its values
@@ -141,9 +145,9 @@ pair-missed = record {
   missed = λ e. omega arith;
 }
 
-pub inverse-needed : Missed pairFile pairWords 8 (ones 8) pairFirst × Honest pairFile pairFirst × PassedBy pairFile pairFirst
+pub inverse-needed : Missed pairFile pairWords 8 (ones 8) pairFirst × Honest pairFile pairFirst × PassedBy pairFile pairFirst × TargetFits pairFile pairFirst
 unfolding graphOf recordAt formulaOf trailerOf kindNo le32 le64
-inverse-needed = (pair-missed, four add-honest equals-honest (λ h. omega arith) (λ h. omega arith), four constant-free sum-free tt tt)
+inverse-needed = (pair-missed, four add-honest equals-honest (λ h. omega arith) (λ h. omega arith), four constant-free sum-free tt tt, refl)
 
 -- without the second: every binary step took the inverse value, and what is passed by is a constant; one step is of kind (a)
 pub quotient-missed : Missed quotientFile cases.zeros 2 (ones 5) quotientRound
@@ -157,9 +161,9 @@ quotient-missed = record {
   missed = λ e. omega arith;
 }
 
-pub kind-a-needed : Missed quotientFile cases.zeros 2 (ones 5) quotientRound × Inverses quotientFile quotientRound × PassedBy quotientFile quotientRound
+pub kind-a-needed : Missed quotientFile cases.zeros 2 (ones 5) quotientRound × Inverses quotientFile quotientRound × PassedBy quotientFile quotientRound × TargetFits quotientFile quotientRound
 unfolding graphOf recordAt formulaOf trailerOf kindNo le32 le64
-kind-a-needed = (quotient-missed, two tt tt, two (free-leaf (graphIn quotientFile) 0 1 (λ e. omega arith) (λ k o. o)) (free-leaf (graphIn quotientFile) 0 3 (λ e. omega arith) (λ k o. o)))
+kind-a-needed = (quotient-missed, two tt tt, two (free-leaf (graphIn quotientFile) 0 1 (λ e. omega arith) (λ k o. o)) (free-leaf (graphIn quotientFile) 0 3 (λ e. omega arith) (λ k o. o)), refl)
 
 -- and of kind (b), at Equals
 pub truth-missed : Missed truthFile cases.zeros 2 (ones 5) truthRound
@@ -173,9 +177,9 @@ truth-missed = record {
   missed = λ e. omega arith;
 }
 
-pub kind-b-needed : Missed truthFile cases.zeros 2 (ones 5) truthRound × Inverses truthFile truthRound × PassedBy truthFile truthRound
+pub kind-b-needed : Missed truthFile cases.zeros 2 (ones 5) truthRound × Inverses truthFile truthRound × PassedBy truthFile truthRound × TargetFits truthFile truthRound
 unfolding graphOf recordAt formulaOf trailerOf kindNo le32 le64
-kind-b-needed = (truth-missed, two tt tt, two (free-leaf (graphIn truthFile) 0 1 (λ e. omega arith) (λ k o. o)) (free-leaf (graphIn truthFile) 0 3 (λ e. omega arith) (λ k o. o)))
+kind-b-needed = (truth-missed, two tt tt, two (free-leaf (graphIn truthFile) 0 1 (λ e. omega arith) (λ k o. o)) (free-leaf (graphIn truthFile) 0 3 (λ e. omega arith) (λ k o. o)), refl)
 
 -- and of kind (b), at Not
 pub not-missed : Missed notFile cases.zeros 2 (ones 4) notRound
@@ -189,9 +193,9 @@ not-missed = record {
   missed = λ e. omega arith;
 }
 
-pub kind-b-needed-at-not : Missed notFile cases.zeros 2 (ones 4) notRound × Inverses notFile notRound × PassedBy notFile notRound
+pub kind-b-needed-at-not : Missed notFile cases.zeros 2 (ones 4) notRound × Inverses notFile notRound × PassedBy notFile notRound × TargetFits notFile notRound
 unfolding graphOf recordAt formulaOf trailerOf kindNo le32 le64
-kind-b-needed-at-not = (not-missed, two tt tt, two tt (free-leaf (graphIn notFile) 0 2 (λ e. omega arith) (λ k o. o)))
+kind-b-needed-at-not = (not-missed, two tt tt, two tt (free-leaf (graphIn notFile) 0 2 (λ e. omega arith) (λ k o. o)), refl)
 
 -- without the third: every binary step took the inverse value, and none is of a false kind; an operand passed by is the input
 pub twice-missed : Missed twiceFile cases.zeros 2 (ones 4) twiceRound
@@ -205,9 +209,9 @@ twice-missed = record {
   missed = λ e. omega arith;
 }
 
-pub other-needed : Missed twiceFile cases.zeros 2 (ones 4) twiceRound × Inverses twiceFile twiceRound × Honest twiceFile twiceRound
+pub other-needed : Missed twiceFile cases.zeros 2 (ones 4) twiceRound × Inverses twiceFile twiceRound × Honest twiceFile twiceRound × TargetFits twiceFile twiceRound
 unfolding graphOf recordAt formulaOf trailerOf kindNo le32 le64
-other-needed = (twice-missed, two tt tt, two add-honest equals-honest)
+other-needed = (twice-missed, two tt tt, two add-honest equals-honest, refl)
 
 -- and an operand passed by depends on it
 pub sum-missed : Missed sumFile cases.zeros 2 (ones 6) sumRound
@@ -221,11 +225,27 @@ sum-missed = record {
   missed = λ e. omega arith;
 }
 
-pub apart-needed : Missed sumFile cases.zeros 2 (ones 6) sumRound × Inverses sumFile sumRound × Honest sumFile sumRound
+pub apart-needed : Missed sumFile cases.zeros 2 (ones 6) sumRound × Inverses sumFile sumRound × Honest sumFile sumRound × TargetFits sumFile sumRound
 unfolding graphOf recordAt formulaOf trailerOf kindNo le32 le64
-apart-needed = (sum-missed, two tt tt, two add-honest equals-honest)
+apart-needed = (sum-missed, two tt tt, two add-honest equals-honest, refl)
 
 -- there the operand passed by is not the input itself
 pub apart-other : (2 ≡ sumRound .node → ⊥) × Depends (graphIn sumFile) 2 (sumRound .node)
 unfolding graphOf recordAt formulaOf trailerOf kindNo le32 le64
 apart-other = (λ e. omega arith, direct 2 0 (inl refl))
+
+-- without Q-3's: the one step took the inverse value, is of no false kind and passes by a constant; the target does not fit
+pub narrow-missed : Missed narrowFile narrowWords 1 (ones 3) narrowRound
+unfolding graphOf recordAt formulaOf trailerOf kindNo le32 le64
+narrow-missed = record {
+  lent = lent narrowFile narrowWords refl refl;
+  call = call narrowFile narrowWords 1 (ones 3) _ narrow-answer;
+  later = [];
+  among = narrow-rounds;
+  input = tt;
+  missed = λ e. omega arith;
+}
+
+pub fits-needed : Missed narrowFile narrowWords 1 (ones 3) narrowRound × Inverses narrowFile narrowRound × Honest narrowFile narrowRound × PassedBy narrowFile narrowRound
+unfolding graphOf recordAt formulaOf trailerOf kindNo le32 le64
+fits-needed = (narrow-missed, one-step tt, one-step equals-honest, one-step (free-leaf (graphIn narrowFile) 0 1 (λ e. omega arith) (λ k o. o)))

@@ -9,10 +9,11 @@ use Rattle.formula.specs.File.{File, formulaOf}
 use Rattle.search.specs.Machine.{Values, valueOf, solved, spent, ranDry, End, Out}
 use Rattle.search.specs.Round.{Round}
 use Rattle.search.specs.Solution.{Input, Sane}
-use Rattle.search.specs.Demand.{All, Fair, Concluded}
+use Rattle.search.specs.Demand.{All, none, more, Fair, Concluded}
 use Rattle.search.specs.Result.{Says, RootSays, Means}
 use Rattle.search.specs.Lawful.{Lawful}
 use Rattle.search.proofs.Hits.{Trail}
+use Rattle.search.proofs.Widths.{sane-fits}
 use Rattle.search.proofs.Results as results
 use Rattle.search.proofs.Results.{search-means, search-counts, search-unique, search-words, search-lent, search-trails}
 use Rattle.rules.specs.One.{one}
@@ -22,8 +23,12 @@ use Rattle.lawful.specs.Owed.{falseKinds}
 use Rattle.lawful.proofs.Steady.{one-steady}
 use Rattle.lawful.proofs.Plays.{play-forward, play-start, play-lawful}
 use Rattle.demands.specs.Call.{Lent, graphIn, Accepted, playIn, searchIn, roundsIn}
-use Rattle.demands.specs.Result.{Meant, Counted}
+use Rattle.demands.specs.Result.{InputsFit, Meant, Counted}
 use Rattle.demands.proofs.Numbers.{given-none}
+
+rounds-fit : (g : Graph) (rs : List Round) → All (λ r. Sane g (r .after)) rs → All (λ r. InputsFit g (r .after)) rs
+rounds-fit g rs none = none
+rounds-fit g rs (more r rs′ h hs) = more r rs′ (sane-fits g (r .after) h) (rounds-fit g rs′ hs)
 
 module _ (f : File) (ws : Words) (budget : ℕ) (vs : Values) (lent : Lent f ws) (a : Accepted f ws vs) where
   abbrev G : Graph
@@ -54,11 +59,13 @@ module _ (f : File) (ws : Words) (budget : ℕ) (vs : Values) (lent : Lent f ws)
     long = means .sane .long;
     below = means .sane .below;
     right = means .sane .solution;
+    fits = sane-fits G (searchIn f ws budget .vals) (means .sane);
     only = search-unique law budget (startOf G ws) (wanted G) start;
     last = means .values;
     linked = means .linked;
     leaves = means .leaves;
     always = means .always;
+    always-fits = rounds-fit G (roundsIn f ws budget) (means .always);
   }
 
   counted : Counted f ws budget (searchIn f ws budget)
@@ -96,7 +103,8 @@ module _ (f : File) (ws : Words) (budget : ℕ) (vs : Values) (o : Out) (lent : 
 
   -- demand 3: "Take a round that ends at an input. Suppose every step at a binary operator took the inverse value, no step is one of
   -- document 01's two false kinds, and no operand passed by is that input or depends on it. Then the root is 1 when the round ends, and
-  -- the search stops there as solved.": any round of the run, the first or a later one
+  -- the search stops there as solved.": any round of the run, the first or a later one. Q-3: "demand 3 gains the premise that the target
+  -- fits", one of `Fair`'s
   pub demand-3 : (before : List Round) (r : Round) (later : List Round) → roundsIn f ws budget ≡ before ++ (r ∷ later) → Input (graphIn f .node (r .node))
       → Fair falseKinds (graphIn f) r → Concluded (graphIn f) r later o
   demand-3 before r later p i h = subst (Concluded (graphIn f) r later) (sym result) (concluded f ws budget vs lent met before r later p i h)

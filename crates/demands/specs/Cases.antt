@@ -9,7 +9,7 @@ use Rattle.symbols.specs.declared.OperandSide.the-variants.{Lhs, Rhs}
 use Rattle.formula.specs.File.{File}
 use Rattle.search.specs.Machine.{Values, valueOf, Choice, byNot, inverse, consistent, solved, Out}
 use Rattle.search.specs.Round.{Taken, Round, NotOne}
-use Rattle.search.specs.Solution.{Input}
+use Rattle.search.specs.Solution.{Input, Fits}
 use Rattle.search.specs.Demand.{All, TookInverse, NotFalse, PassedFree}
 use Rattle.lawful.specs.Owed.{falseKinds}
 use Rattle.demands.specs.Call.{Lent, Accepted, graphIn, roundsIn}
@@ -119,6 +119,22 @@ sumRound = record {
   after = 9 ∷ 1 ∷ 10 ∷ 19 ∷ 10 ∷ 0 ∷ [];
 }
 
+-- Equals(x, 10) with x of 3 bits: the target 10 does not fit. The start takes 15 modulo 8
+abbrev pub narrowFile : File
+narrowFile = node 1 3 40 (node 0 0 10 (node 9 0 1 (trailer 48 2)))
+
+abbrev pub narrowWords : Words
+narrowWords = 15 ∷ 0 ∷ 0 ∷ 0 ∷ []
+
+abbrev pub narrowRound : Round
+narrowRound = record {
+  before = 7 ∷ 10 ∷ 0 ∷ [];
+  steps = step 2 1 10 (inverse Lhs) ∷ [];
+  node = 0;
+  target = 10;
+  after = 7 ∷ 10 ∷ 0 ∷ [];
+}
+
 -- words that are all zero choose the left operand and the inverse value
 abbrev pub zeros : Words
 zeros = 0 ∷ 0 ∷ 0 ∷ 0 ∷ 0 ∷ 0 ∷ 0 ∷ 0 ∷ 0 ∷ []
@@ -136,7 +152,7 @@ pub record Missed (f : File) (ws : Words) (budget : ℕ) (vs : Values) (r : Roun
   pub input : Input (graphIn f .node (r .node))
   pub missed : NotOne (graphIn f) r
 
--- demand 3's three premises, one by one
+-- demand 3's premises, one by one
 abbrev pub Inverses : File → Round → Type 0
 Inverses f r = All (λ s. TookInverse (graphIn f .node (s .node)) s) (r .steps)
 
@@ -145,3 +161,6 @@ Honest f r = All (λ s. NotFalse falseKinds (graphIn f .node (s .node)) (valueOf
 
 abbrev pub PassedBy : File → Round → Type 0
 PassedBy f r = All (λ s. PassedFree (graphIn f) (graphIn f .node (s .node)) (r .node) s) (r .steps)
+
+abbrev pub TargetFits : File → Round → Type 0
+TargetFits f r = Fits (graphIn f .node (r .node)) (r .target)

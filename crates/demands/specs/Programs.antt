@@ -84,7 +84,7 @@ alwaysConsistent = record { table = λ o d s t. false; inverse = inverseAt; cons
 -- "Asking the node's own operator in the essential rule."
 abbrev pub asksOwn : BVOperator → Node → OperandSide → Value → Value → Bool
 asksOwn own (constant c) d s t = false
-asksOwn own (input l) d s t = false
+asksOwn own (input p) d s t = false
 asksOwn own (unary a) d s t = not (tableSays own d s t)
 asksOwn own (binary q a b) d s t = not (tableSays own d s t)
 

@@ -1,7 +1,7 @@
 -- What an accepted file is known to be: its bytes, and that its graph is well-formed. Assumes nothing.
 use Prim.Native.Nat.{_-_, _%_, _≤_}
 use mathlib.Core.Path.{_≡_, sym, ap, subst, _∙_}
-use mathlib.Core.Bool.{true, false, not}
+use mathlib.Core.Bool.{true, false, not, _||_}
 use native.Mathlib.Omega.{arith}
 use lib.ListN.{length}
 use lib.Dec.{ltb, eqb}
@@ -11,8 +11,8 @@ use Rattle.symbols.specs.Order.{Acyclic}
 use Rattle.symbols.proofs.Tests.{or-no}
 use Rattle.symbols.proofs.Ranks.{well-formed-acyclic}
 use Rattle.formula.specs.File.{File, Record, formulaOf, recordAt, distanceOf}
-use Rattle.formula.specs.Graph.{kindOf, graphOf}
-use Rattle.checks.specs.Refusals.{unknown, clean, badSpan, badRecord, accepted, verdict}
+use Rattle.formula.specs.Graph.{kindOf, nodeOf, graphOf}
+use Rattle.checks.specs.Refusals.{unknown, clean, wide, badSpan, badRecord, accepted, verdict}
 use Rattle.checks.proofs.Joining.{span-few}
 use Rattle.formula.specs.declared.Formula.{Formula}
 use Rattle.filelaws.specs.Known.{Known}
@@ -37,8 +37,11 @@ spanned f e =
       inside = ltb-false (length f - 16) d (h .1);
     }
 
-good : (r : Record) → badRecord r ≡ false → (unknown (kindOf r) ≡ false) × (clean (kindOf r) r ≡ true)
-good r e = let h = or-no (unknown (kindOf r)) (not (clean (kindOf r) r)) e in (h .0, not-false (clean (kindOf r) r) (h .1))
+good : (r : Record) → badRecord r ≡ false → (unknown (kindOf r) ≡ false) × (clean (kindOf r) r ≡ true) × (wide (nodeOf r) ≡ false)
+good r e =
+    let w = or-no (unknown (kindOf r) || not (clean (kindOf r) r)) (wide (nodeOf r)) e in
+    let h = or-no (unknown (kindOf r)) (not (clean (kindOf r) r)) (w .0) in
+    (h .0, not-false (clean (kindOf r) r) (h .1), w .1)
 
 known-whole : (f : File) → verdict f ≡ accepted (formulaOf f) → Known f (formulaOf f)
 unfolding formulaOf
@@ -56,6 +59,7 @@ known-whole f e =
       rooted = w .1;
       kinds = λ i p. good (recordAt f (formulaOf f) i) (w .0 .records .fine i p .known) .0;
       zero = λ i p. good (recordAt f (formulaOf f) i) (w .0 .records .fine i p .known) .1;
+      narrow = λ i p. good (recordAt f (formulaOf f) i) (w .0 .records .fine i p .known) .2;
     }
 
 well-formed-whole : (f : File) → verdict f ≡ accepted (formulaOf f) → WellFormed (graphOf f (formulaOf f))

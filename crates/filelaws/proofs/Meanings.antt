@@ -1,6 +1,6 @@
 -- What the conditions of the table say: each test holds exactly when the paper's words do. Assumes nothing.
 use Prim.Native.Nat.{ℕ, zero, suc, _+_, _-_, _%_, _≤_, _<_}
-use mathlib.Core.Path.{_≡_, refl, sym, ap, _∙_}
+use mathlib.Core.Path.{_≡_, refl, sym, ap, subst, _∙_}
 use mathlib.Core.Bool.{true, false, not, true≢false}
 use mathlib.Core.Logic.{_↔_, _⊎_, inl, inr, ⊎-elim}
 use native.Mathlib.Omega.{arith}
@@ -10,12 +10,13 @@ use lib.Dec.{ltb, leb, eqb}
 use borrow.Author.Tests.{ltb-true, lt-ltb, leb-true, le-leb, eqb-true, eqb-false, eq-eqb, ne-eqb, not-true}
 use Rattle.symbols.specs.Graph.{Id, Value, Node, constant, input, unary, binary}
 use Rattle.symbols.proofs.Tests.{and-yes, either}
+use Rattle.symbols.specs.declared.Port.{Port}
 use Rattle.formula.specs.File.{File, Record, Place, byte, distanceOf, versionOf, lastOf, zeros}
-use Rattle.checks.specs.Refusals.{badSize, badTrailer, badSpan, unknown, clean, badRecord, outside, fixed}
-use Rattle.formula.specs.Graph.{kindOf}
+use Rattle.checks.specs.Refusals.{badSize, badTrailer, badSpan, unknown, clean, wide, badRecord, outside, fixed}
+use Rattle.formula.specs.Graph.{kindOf, nodeOf}
 use Rattle.formula.specs.declared.Kind.{Kind}
 use Rattle.formula.specs.declared.Kind.the-variants.{Constant, Input, Unary, Binary, Unknown}
-use Rattle.filelaws.specs.Faults.{OutOfOrder, FixedElsewhere}
+use Rattle.filelaws.specs.Faults.{TooWide, OutOfOrder, FixedElsewhere}
 
 differs : (a b : ℕ) → (not (eqb a b) ≡ true) ↔ (a ≡ b → ⊥)
 differs a b = (λ e. eqb-false a b (not-true (eqb a b) e), λ h. ap not (ne-eqb a b h))
@@ -66,7 +67,7 @@ high n a = (leb-true n a, le-leb n a)
 -- Q-1: "5 now means an operand id not below n"
 pub order-means : (n : ℕ) (x : Node) → (outside n x ≡ true) ↔ OutOfOrder n x
 order-means n (constant v) = (λ e. absurd (true≢false (sym e)), λ h. absurd (h .named))
-order-means n (input l) = (λ e. absurd (true≢false (sym e)), λ h. absurd (h .named))
+order-means n (input p) = (λ e. absurd (true≢false (sym e)), λ h. absurd (h .named))
 order-means n (unary a) = (
   λ e. record { operand = a; named = refl; high = leb-true n a e },
   λ h. le-leb n a (let x = h .named in let y = h .high in omega arith),
@@ -87,7 +88,7 @@ fixed-means (constant v) = (
   λ e. record { value = v; is = refl; other = differs v 1 .0 e },
   λ h. differs v 1 .1 (λ e. h .other (let x : v ≡ h .value = constant-value v (h .value) (h .is) in sym x ∙ e)),
 )
-fixed-means (input l) = (λ e. absurd (true≢false (sym e)), λ h. let i = h .is in let z : _≡_ {A = ℕ} 0 1 = cc in absurd (omega arith))
+fixed-means (input p) = (λ e. absurd (true≢false (sym e)), λ h. let i = h .is in let z : _≡_ {A = ℕ} 0 1 = cc in absurd (omega arith))
 fixed-means (unary a) = (λ e. absurd (true≢false (sym e)), λ h. let i = h .is in let z : _≡_ {A = ℕ} 0 1 = cc in absurd (omega arith))
 fixed-means (binary o a b) = (λ e. absurd (true≢false (sym e)), λ h. let i = h .is in let z : _≡_ {A = ℕ} 0 1 = cc in absurd (omega arith))
 
@@ -98,6 +99,19 @@ unknown-means Unary = (λ e. absurd (true≢false (sym e)), λ e. ap unknown e)
 unknown-means (Binary o) = (λ e. absurd (true≢false (sym e)), λ e. ap unknown e)
 unknown-means Unknown = (λ e. refl, λ e. refl)
 
--- "unknown kind or a non-zero byte that must be zero"
-pub record-means : (r : Record) → (badRecord r ≡ true) ↔ ((kindOf r ≡ Unknown) ⊎ (clean (kindOf r) r ≡ false))
-record-means r = either _ _ (unknown-means (kindOf r)) (not-true (clean (kindOf r) r), ap not)
+input-port : (p q : Port) → input p ≡ input q → p ≡ q
+input-port p q e = cc
+
+-- "a width above 64"
+pub wide-means : (n : Node) → (wide n ≡ true) ↔ TooWide n
+wide-means (constant v) = (λ e. absurd (true≢false (sym e)), λ h. let i = h .is in let z : _≡_ {A = ℕ} 0 1 = cc in absurd (omega arith))
+wide-means (input p) = (
+  λ e. record { port = p; is = refl; above = ltb-true 64 (p .width) e },
+  λ h. lt-ltb 64 (p .width) (subst (λ (q : Port). 64 < q .width) (sym (input-port p (h .port) (h .is))) (h .above)),
+)
+wide-means (unary a) = (λ e. absurd (true≢false (sym e)), λ h. let i = h .is in let z : _≡_ {A = ℕ} 0 1 = cc in absurd (omega arith))
+wide-means (binary o a b) = (λ e. absurd (true≢false (sym e)), λ h. let i = h .is in let z : _≡_ {A = ℕ} 0 1 = cc in absurd (omega arith))
+
+-- "unknown kind or a non-zero byte that must be zero"; Q-3: "4 also for a width above 64"
+pub record-means : (r : Record) → (badRecord r ≡ true) ↔ (((kindOf r ≡ Unknown) ⊎ (clean (kindOf r) r ≡ false)) ⊎ TooWide (nodeOf r))
+record-means r = either _ _ (either _ _ (unknown-means (kindOf r)) (not-true (clean (kindOf r) r), ap not)) (wide-means (nodeOf r))

@@ -119,14 +119,14 @@ past-count f m i h = rw (le-ltb i (m .count) h)
 
 unfoldable nodeFrom : Node → node.Node
 nodeFrom (constant v) = variants.Constant record { 0 = v }
-nodeFrom (input l) = variants.Input l
+nodeFrom (input p) = variants.Input p
 nodeFrom (unary a) = variants.Unary record { 0 = a }
 nodeFrom (binary o a b) = variants.Binary o record { 0 = a } record { 0 = b }
 
 node-from : (x : node.Node) → nodeFrom (nodeIs x) ≡ x
 unfolding nodeFrom
 node-from (variants.Constant v) = refl
-node-from (variants.Input l) = refl
+node-from (variants.Input p) = refl
 node-from (variants.Unary a) = refl
 node-from (variants.Binary o a b) = refl
 

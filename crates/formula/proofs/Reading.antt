@@ -11,12 +11,15 @@ use lib.Seq.{take-all}
 use lib.Dec.{ltb, eqb}
 use borrow.Author.Tests.{lt-ltb, le-ltb}
 use Rattle.laws.specs.Pick.{pick}
+use Rattle.symbols.specs.Graph as graph
+use Rattle.symbols.specs.declared.Port.{Port}
 use Rattle.formula.specs.File.{File, le32, zeros, trailerOf, formulaOf, recordAt}
-use Rattle.formula.specs.Graph.{kinds, kindNo, kindOf, nodeBy, nodeOf, graphOf, nodeIs}
+use Rattle.formula.specs.Graph.{kinds, kindNo, kindOf, portOf, nodeBy, nodeOf, graphOf, nodeIs}
 use Rattle.formula.specs.declared.Formula.{Formula}
 use Rattle.formula.specs.declared.Node.{Node}
+use Rattle.formula.specs.declared.Node.the-variants as node
 use Rattle.formula.specs.declared.Kind.{Kind}
-use Rattle.formula.specs.declared.Kind.the-variants.{Unknown}
+use Rattle.formula.specs.declared.Kind.the-variants.{Input, Unknown}
 
 pub zeros-none : (s : List ℕ) (a : ℕ) → true ≡ zeros s a 0
 unfolding zeros
@@ -90,6 +93,9 @@ pub kind-other : (b : ℕ) → (b ≡ 0 → ⊥) → (b ≡ 1 → ⊥) → (b �
 kind-other b n0 n1 n2 n3 n4 n5 n6 n7 n8 n9 n10 =
     let o : 0 ≤ b = omega arith in
     kind-past b (up 10 b (up 9 b (up 8 b (up 7 b (up 6 b (up 5 b (up 4 b (up 3 b (up 2 b (up 1 b (up 0 b o n0) n1) n2) n3) n4) n5) n6) n7) n8) n9) n10)
+
+pub decode-input : (k : Kind) (r : List ℕ) (p : Port) → k ≡ Input → p ≡ portOf r → nodeIs (node.Input p) ≡ nodeBy k r
+decode-input k r p e h = ap graph.input h ∙ ap (λ (x : Kind). nodeBy x r) (sym e)
 
 pub node-is : (f r : List ℕ) (m : Formula) (i : ℕ) (k : Kind) (n : Node) → r ≡ recordAt f m i → k ≡ kindOf r → nodeIs n ≡ nodeBy k r → nodeIs n ≡ graphOf f m .node i
 unfolding graphOf

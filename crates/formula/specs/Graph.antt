@@ -3,6 +3,7 @@ use Prim.Native.Nat.{ℕ}
 use mathlib.Core.List.{List, [], _∷_}
 use lib.ListN.{getD}
 use Rattle.symbols.specs.Graph.{Graph, Node, constant, input, unary, binary}
+use Rattle.symbols.specs.declared.Port.{Port}
 use Rattle.symbols.specs.declared.BVOperator.the-variants.{Add, Sub, Mul, Divu, Sltu, Remu, Equals, BitwiseAnd}
 use Rattle.formula.specs.File.{File, Record, byte, le32, le64, recordAt}
 use Rattle.formula.specs.declared.Formula.{Formula}
@@ -32,12 +33,16 @@ kindNo b = getD kinds b Unknown
 abbrev pub kindOf : Record → Kind
 kindOf r = kindNo (byte r 0)
 
--- "Operators: left (or only) operand as u32 in bytes 4 to 7; binary ones the right in 8 to 11. Constants hold their value,
--- inputs a label (u64, may repeat), in 8 to 15." A record of no known kind, which the check refuses, reads as the constant 0,
+-- "inputs a label (u64, may repeat), in 8 to 15"; Q-3: "Byte 4 of an input record now says its width in bits"
+abbrev pub portOf : Record → Port
+portOf r = record { label = le64 r 8; width = byte r 4 }
+
+-- "Operators: left (or only) operand as u32 in bytes 4 to 7; binary ones the right in 8 to 11. Constants hold their value
+-- … in 8 to 15." A record of no known kind, which the check refuses, reads as the constant 0,
 -- and so does an empty one.
 abbrev pub nodeBy : Kind → Record → Node
 nodeBy Constant r = constant (le64 r 8)
-nodeBy Input r = input (le64 r 8)
+nodeBy Input r = input (portOf r)
 nodeBy Unary r = unary (le32 r 4)
 nodeBy (Binary o) r = binary o (le32 r 4) (le32 r 8)
 nodeBy Unknown r = constant 0
@@ -52,6 +57,6 @@ graphOf f m = record { count = m .count; root = m .root .0; node = λ i. nodeOf 
 -- the node that the code's node is
 abbrev pub nodeIs : Rattle.formula.specs.declared.Node.Node → Node
 nodeIs (node.Constant v) = constant (v .0)
-nodeIs (node.Input l) = input l
+nodeIs (node.Input p) = input p
 nodeIs (node.Unary a) = unary (a .0)
 nodeIs (node.Binary o a b) = binary o (a .0) (b .0)

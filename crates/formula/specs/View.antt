@@ -9,26 +9,26 @@ use Rattle.formula.specs.declared.view.OperandIds.the-variants as ids
 
 abbrev pub symbolOf : Node → Symbol
 symbolOf (constant v) = symbol.Constant record { 0 = v }
-symbolOf (input l) = symbol.Input l
+symbolOf (input p) = symbol.Input (p .label)
 symbolOf (unary a) = symbol.Operator Not
 symbolOf (binary o a b) = symbol.Operator o
 
 -- the left or only operand of node i; a leaf has none, and i stands for it
 abbrev pub operandOf : Id → Node → Id
 operandOf i (constant v) = i
-operandOf i (input l) = i
+operandOf i (input p) = i
 operandOf i (unary a) = a
 operandOf i (binary o a b) = a
 
 abbrev pub operandsOf : Node → OperandIds
 operandsOf (constant v) = ids.None
-operandsOf (input l) = ids.None
+operandsOf (input p) = ids.None
 operandsOf (unary a) = ids.One record { 0 = a }
 operandsOf (binary o a b) = ids.Two record { 0 = a } record { 0 = b }
 
 -- a constant or an input
 abbrev pub isLeaf : Node → Bool
 isLeaf (constant v) = true
-isLeaf (input l) = true
+isLeaf (input p) = true
 isLeaf (unary a) = false
 isLeaf (binary o a b) = false

@@ -5,6 +5,7 @@ use bytes::least;
 use record::decode;
 use record::record_kind;
 use symbols::BVOperator;
+use symbols::Port;
 use symbols::SymbolId;
 ghost use mathlib.Core.Path.{_≡_};
 ghost use Prim.Native.Nat.{_≤_};
@@ -33,10 +34,10 @@ pub enum Kind {
     Unknown,
 }
 
-// A node: a constant and its value, an input and its label, Not and its operand, any other operator and its two.
+// A node: a constant and its value, an input with its label and width, Not and its operand, any other operator and its two.
 pub enum Node {
     Constant(BitVector),
-    Input(u64),
+    Input(Port),
     Unary(SymbolId),
     Binary(BVOperator, SymbolId, SymbolId),
 }

@@ -5,10 +5,11 @@ use super::bytes::byte_at;
 use super::bytes::u32_at;
 use bitvec::BitVector;
 use symbols::BVOperator;
+use symbols::Port;
 use symbols::SymbolId;
 ghost use mathlib.Core.Path.{_≡_};
 ghost use Rattle.formula.specs.File.{le32, le64};
-ghost use Rattle.formula.specs.Graph.{kindNo, kindOf, nodeBy, nodeIs};
+ghost use Rattle.formula.specs.Graph.{kindNo, kindOf, portOf, nodeBy, nodeIs};
 
 fn kind_no(b: u8) -> Kind
     ensures { λ k. ⌜ k ≡ kindNo b ⌝ }
@@ -56,13 +57,22 @@ pub fn value(r: &[u8]) -> u64
     low + 4294967296 * high
 }
 
+fn port(r: &[u8]) -> Port
+    ensures { λ p. ⌜ p ≡ portOf (now (r .entry)) ⌝ }
+{
+    Port {
+        label: value(r),
+        width: byte_at(r, 4),
+    }
+}
+
 // What a record of this kind holds.
 pub fn decode(k: Kind, r: &[u8]) -> Node
     ensures { λ n. ⌜ nodeIs n ≡ nodeBy k (now (r .entry)) ⌝ }
 {
     match k {
         Kind::Constant => Node::Constant(BitVector(value(r))),
-        Kind::Input => Node::Input(value(r)),
+        Kind::Input => Node::Input(port(r)),
         Kind::Unary => Node::Unary(left(r)),
         Kind::Binary(op) => Node::Binary(op, left(r), right(r)),
         Kind::Unknown => Node::Constant(BitVector(0)),

@@ -21,7 +21,7 @@ impl Node {
     {
         match self {
             Node::Constant(v) => Symbol::Constant(v),
-            Node::Input(label) => Symbol::Input(label),
+            Node::Input(p) => Symbol::Input(p.label),
             Node::Unary(a) => Symbol::Operator(BVOperator::Not),
             Node::Binary(op, a, b) => Symbol::Operator(op),
         }
@@ -33,7 +33,7 @@ impl Node {
     {
         match self {
             Node::Constant(v) => id,
-            Node::Input(label) => id,
+            Node::Input(p) => id,
             Node::Unary(a) => a,
             Node::Binary(op, a, b) => a,
         }
@@ -44,7 +44,7 @@ impl Node {
     {
         match self {
             Node::Constant(v) => OperandIds::None,
-            Node::Input(label) => OperandIds::None,
+            Node::Input(p) => OperandIds::None,
             Node::Unary(a) => OperandIds::One(a),
             Node::Binary(op, a, b) => OperandIds::Two(a, b),
         }
@@ -56,7 +56,7 @@ impl Node {
     {
         match self {
             Node::Constant(v) => true,
-            Node::Input(label) => true,
+            Node::Input(p) => true,
             Node::Unary(a) => false,
             Node::Binary(op, a, b) => false,
         }

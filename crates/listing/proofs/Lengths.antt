@@ -7,9 +7,10 @@ use lib.ListN.{length, length-append}
 use Rattle.text.specs.Text.{decimal}
 use Rattle.text.proofs.Decimals.{decimal-length, decimal-one, decimal-more}
 use Rattle.symbols.specs.Graph.{Id, Value, Node, constant, input, unary, binary}
+use Rattle.symbols.specs.declared.Port.{Port}
 use Rattle.symbols.specs.declared.BVOperator.{BVOperator}
 use Rattle.symbols.specs.declared.BVOperator.the-variants.{Add, Sub, Mul, Divu, Sltu, Remu, Not, Equals, BitwiseAnd}
-use Rattle.listing.specs.Listing.{sign, name, meaning, lineOf}
+use Rattle.listing.specs.Listing.{sign, name, quoted, meaning, lineOf}
 
 sign-length : (o : BVOperator) → length (sign o) ≤ 1
 sign-length Add = omega arith
@@ -29,9 +30,13 @@ pub constant-length : (v : Value) → v < 2 ^ 64 → length (meaning (constant v
 unfolding meaning
 constant-length v h = decimal-length 19 v (omega arith)
 
-pub input-length : (l : Value) → l < 2 ^ 64 → length (meaning (input l)) ≤ 22
+pub quoted-length : (l : Value) → l < 2 ^ 64 → length (quoted l) ≤ 22
+unfolding quoted
+quoted-length l h = simp length-append (omega (arith, decimal-length 19 l (omega arith)))
+
+input-length : (p : Port) → p .label < 2 ^ 64 → length (meaning (input p)) ≤ 22
 unfolding meaning
-input-length l h = simp length-append (omega (arith, decimal-length 19 l (omega arith)))
+input-length p h = quoted-length (p .label) h
 
 pub unary-length : (k : ℕ) (a : Id) → a < 10 ^ suc k → length (meaning (unary a)) ≤ 3 + k
 unfolding meaning
@@ -61,13 +66,13 @@ long (suc k) v h = rw (decimal-more v (omega (arith, ten k)), length-append) (om
 -- ids below 10,000, values and labels of 64 bits
 abbrev pub Small : Node → Type 0
 Small (constant v) = v < 2 ^ 64
-Small (input l) = l < 2 ^ 64
+Small (input p) = p .label < 2 ^ 64
 Small (unary a) = a < 10000
 Small (binary o a b) = (a < 10000) × (b < 10000)
 
 meaning-short : (n : Node) → Small n → length (meaning n) ≤ 22
 meaning-short (constant v) h = omega (arith, constant-length v h)
-meaning-short (input l) h = input-length l h
+meaning-short (input p) h = input-length p h
 meaning-short (unary a) h = omega (arith, unary-length 3 a (omega arith))
 meaning-short (binary o a b) h = omega (arith, binary-length 3 o a b (omega (arith, h .0)) (omega (arith, h .1)))
 
@@ -75,8 +80,8 @@ meaning-short (binary o a b) h = omega (arith, binary-length 3 o a b (omega (ari
 pub line-short : (i : Id) (n : Node) → i < 10000 → Small n → length (lineOf i n) ≤ 32
 line-short i n h s = line-length 3 22 i n (omega arith) (meaning-short n s)
 
-pub longest-line : length (lineOf 3999 (input 0xffff_ffff_ffff_ffff)) ≡ 32
-unfolding lineOf meaning
+pub longest-line : length (lineOf 3999 (input record { label = 0xffff_ffff_ffff_ffff; width = 64 })) ≡ 32
+unfolding lineOf meaning quoted
 longest-line = simp length-append (omega (arith, decimal-length 3 3999 (omega arith), long 3 3999 (omega arith), decimal-length 19 v (omega arith), long 19 v (omega arith)))
   where
     v : ℕ

@@ -6,15 +6,16 @@ use native.Mathlib.Omega.{arith}
 use lib.ListN.{length}
 use Rattle.text.specs.Text.{Text, Place, bytes, decimal, Wrote, WroteUpTo}
 use Rattle.text.proofs.Writing.{wrote-append}
-use Rattle.symbols.specs.Graph.{Id, Value, input, binary}
+use Rattle.symbols.specs.Graph.{Id, Value, binary}
+use Rattle.symbols.specs.declared.Port.{Port}
 use Rattle.symbols.specs.declared.SymbolId.{SymbolId}
 use Rattle.symbols.specs.declared.BVOperator.{BVOperator}
 use Rattle.bitvec.specs.declared.BitVector.{BitVector}
 use Rattle.formula.specs.Graph.{nodeIs}
 use Rattle.formula.specs.declared.Node.{Node}
 use Rattle.formula.specs.declared.Node.the-variants as node
-use Rattle.listing.specs.Listing.{sign, name, meaning, lineOf}
-use Rattle.listing.proofs.Lengths.{constant-length, input-length, unary-length, binary-length, line-length}
+use Rattle.listing.specs.Listing.{sign, name, quoted, meaning, lineOf}
+use Rattle.listing.proofs.Lengths.{constant-length, quoted-length, unary-length, binary-length, line-length}
 
 -- put_meaning
 module _ (at n : Place) (o p : Text) (x : Node) where
@@ -22,8 +23,9 @@ module _ (at n : Place) (o p : Text) (x : Node) where
   unfolding meaning
   meaning-constant v h b w = rw h record { wrote = w; short = omega (arith, constant-length (v .0) b) }
 
-  pub meaning-input : (l : Value) → x ≡ node.Input l → l < 2 ^ 64 → Wrote (meaning (input l)) at o p n → WroteUpTo 25 (meaning (nodeIs x)) at o p n
-  meaning-input l h b w = rw h record { wrote = w; short = omega (arith, input-length l b) }
+  pub meaning-input : (q : Port) → x ≡ node.Input q → q .label < 2 ^ 64 → Wrote (quoted (q .label)) at o p n → WroteUpTo 25 (meaning (nodeIs x)) at o p n
+  unfolding meaning
+  meaning-input q h b w = rw h record { wrote = w; short = omega (arith, quoted-length (q .label) b) }
 
   pub meaning-unary : (a : SymbolId) → x ≡ node.Unary a → a .0 < 2 ^ 32 → Wrote (bytes "!x" ++ decimal (a .0)) at o p n → WroteUpTo 25 (meaning (nodeIs x)) at o p n
   unfolding meaning
@@ -34,9 +36,9 @@ module _ (at n : Place) (o p : Text) (x : Node) where
   meaning-binary op a b h ha hb w = rw h record { wrote = w; short = omega (arith, binary-length 9 op (a .0) (b .0) (omega arith) (omega arith)) }
 
 -- put_input
-pub quoted : (l : Value) (at a b : Place) (o p q : Text) → length o < 2 ^ 64 → Wrote (bytes "\"" ++ decimal l) at o p a → Wrote (bytes "\"") a p q b → Wrote (meaning (input l)) at o q b
-unfolding meaning
-quoted l at a b o p q fits u v = wrote-append fits u v
+pub in-quotes : (l : Value) (at a b : Place) (o p q : Text) → length o < 2 ^ 64 → Wrote (bytes "\"" ++ decimal l) at o p a → Wrote (bytes "\"") a p q b → Wrote (quoted l) at o q b
+unfolding quoted
+in-quotes l at a b o p q fits u v = wrote-append fits u v
 
 module _ (at a b c d : Place) (o p q s t : Text) (fits : length o < 2 ^ 64) where
   -- put_binary

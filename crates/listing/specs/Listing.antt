@@ -1,7 +1,7 @@
 -- Q-2: the listing, from the source's Printer (symbolic_state.rs) and the signs of mod.rs. Assumes nothing.
 use mathlib.Core.List.{[], _∷_, _++_}
 use Rattle.text.specs.Text.{Text, bytes, decimal}
-use Rattle.symbols.specs.Graph.{Id, Graph, Node, constant, input, unary, binary}
+use Rattle.symbols.specs.Graph.{Id, Value, Graph, Node, constant, input, unary, binary}
 use Rattle.symbols.specs.declared.BVOperator.{BVOperator}
 use Rattle.symbols.specs.declared.BVOperator.the-variants.{Add, Sub, Mul, Divu, Sltu, Remu, Not, Equals, BitwiseAnd}
 use Rattle.visits.specs.Walk.{Ids, listed}
@@ -22,10 +22,14 @@ sign Sltu = bytes "<"
 abbrev pub name : Id → Text
 name i = bytes "x" ++ decimal i
 
--- "`x2 := x0 + x1`, `x4 := !x3`, constants in decimal, inputs as the decimal label in double quotes"
+-- "the decimal label in double quotes"
+unfoldable pub quoted : Value → Text
+quoted l = bytes "\"" ++ decimal l ++ bytes "\""
+
+-- "`x2 := x0 + x1`, `x4 := !x3`, constants in decimal, inputs as the decimal label in double quotes": the width is not listed
 unfoldable pub meaning : Node → Text
 meaning (constant v) = decimal v
-meaning (input label) = bytes "\"" ++ decimal label ++ bytes "\""
+meaning (input p) = quoted (p .label)
 meaning (unary a) = sign Not ++ name a
 meaning (binary o a b) = name a ++ bytes " " ++ sign o ++ bytes " " ++ name b
 

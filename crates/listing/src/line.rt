@@ -12,8 +12,8 @@ ghost use Prim.Native.Nat.{_≤_};
 ghost use lib.ListN.{length};
 ghost use Rattle.text.specs.Text.{Wrote, WroteUpTo};
 ghost use Rattle.formula.specs.Graph.{nodeIs};
-ghost use Rattle.symbols.specs.Graph.{input, binary};
-ghost use Rattle.listing.specs.Listing.{sign, name, meaning, lineOf};
+ghost use Rattle.symbols.specs.Graph.{binary};
+ghost use Rattle.listing.specs.Listing.{sign, name, quoted, meaning, lineOf};
 
 fn sign_of(op: BVOperator) -> u8
     ensures { λ r. ⌜ (r ∷ []) ≡ sign op ⌝ }
@@ -32,7 +32,7 @@ fn sign_of(op: BVOperator) -> u8
 }
 
 fn put_input(out: &mut [u8], at: usize, label: u64) -> usize
-    ensures { λ r. ⌜ Wrote (meaning (input label)) at (now (out .entry)) (now (out .exit)) r ⌝ }
+    ensures { λ r. ⌜ Wrote (quoted label) at (now (out .entry)) (now (out .exit)) r ⌝ }
 {
     let a = put_field(out, at, b"\"", label);
     put_text(out, a, b"\"")
@@ -52,7 +52,7 @@ fn put_meaning(out: &mut [u8], at: usize, n: Node) -> usize
 {
     match n {
         Node::Constant(v) => put_decimal(out, at, v.0),
-        Node::Input(label) => put_input(out, at, label),
+        Node::Input(p) => put_input(out, at, p.label),
         Node::Unary(a) => put_field(out, at, b"!x", a.0 as u64),
         Node::Binary(op, a, b) => put_binary(out, at, op, a, b),
     }

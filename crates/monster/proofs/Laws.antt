@@ -15,6 +15,7 @@ use Rattle.symbols.specs.Graph as graph
 use Rattle.symbols.specs.Graph.{Graph}
 use Rattle.symbols.specs.Operators.{otherSide}
 use Rattle.symbols.specs.declared.SymbolId.{SymbolId}
+use Rattle.symbols.specs.declared.Port.{Port}
 use Rattle.symbols.specs.declared.OperandSide.{OperandSide}
 use Rattle.symbols.specs.declared.OperandSide.the-variants.{Lhs, Rhs}
 use Rattle.symbols.specs.declared.BVOperator.{BVOperator}
@@ -42,9 +43,9 @@ module _ (o : BVOperator) (q : Node) (d : OperandSide) (s t : ℕ) where
   unfolding hindersOne
   hinders-constant v e = asked (node.Constant v) e
 
-  pub hinders-input : (l : ℕ) → q ≡ node.Input l → false ≡ hindersOne o (nodeIs q) d s t
+  pub hinders-input : (p : Port) → q ≡ node.Input p → false ≡ hindersOne o (nodeIs q) d s t
   unfolding hindersOne
-  hinders-input l e = asked (node.Input l) e
+  hinders-input p e = asked (node.Input p) e
 
   pub hinders-unary : (a : SymbolId) (x : Bool) → q ≡ node.Unary a → x ≡ tableSays operator.Not d s t → not x ≡ hindersOne o (nodeIs q) d s t
   unfolding hindersOne
@@ -152,8 +153,8 @@ module _ (h : Here) (ws : Words) (i t n : ℕ) (q : Node) (hq : nodeIs q ≡ h .
   pub step-constant : (v : BitVector) → q ≡ node.Constant v → dry n ≡ stepFrom h ws i t n
   step-constant v e = by (node.Constant v) e
 
-  pub step-input : (l : ℕ) → q ≡ node.Input l → dry n ≡ stepFrom h ws i t n
-  step-input l e = by (node.Input l) e
+  pub step-input : (p : Port) → q ≡ node.Input p → dry n ≡ stepFrom h ws i t n
+  step-input p e = by (node.Input p) e
 
   pub step-not : (a : SymbolId) (v : ℕ) → q ≡ node.Unary a → v ≡ isZero t → to (a .0) v n byNot ≡ stepFrom h ws i t n
   step-not a v e hv = ap (λ (x : ℕ). to (a .0) x n byNot) hv ∙ by (node.Unary a) e

@@ -32,7 +32,7 @@ pub record Here : Type 0 where
 
 abbrev pub isConstant : Node → Bool
 isConstant (constant c) = true
-isConstant (input l) = false
+isConstant (input p) = false
 isConstant (unary a) = false
 isConstant (binary o a b) = false
 
@@ -79,7 +79,7 @@ alongWay h o a b t ws n noWay = dry n
 -- begins at no leaf: what stands there is never asked
 abbrev pub stepBy : Here → Node → Value → Words → Place → Step
 stepBy h (constant c) t ws n = dry n
-stepBy h (input l) t ws n = dry n
+stepBy h (input p) t ws n = dry n
 stepBy h (unary a) t ws n = to a (isZero t) n byNot
 stepBy h (binary o a b) t ws n = alongWay h o a b t ws n (wayAt h o a b t ws n)
 

@@ -45,7 +45,7 @@ fn is_constant(n: Node) -> bool
 {
     match n {
         Node::Constant(v) => true,
-        Node::Input(l) => false,
+        Node::Input(p) => false,
         Node::Unary(a) => false,
         Node::Binary(op, a, b) => false,
     }
@@ -57,7 +57,7 @@ fn hinders(own: BVOperator, sibling: Node, d: OperandSide, s: BitVector, t: BitV
 {
     match sibling {
         Node::Constant(v) => false,
-        Node::Input(l) => false,
+        Node::Input(p) => false,
         Node::Unary(a) => !reach::is_invertible(BVOperator::Not, s, t, d),
         Node::Binary(op, a, b) => !reach::is_invertible(op, s, t, d),
     }
@@ -177,7 +177,7 @@ pub fn step(file: &[u8], m: Formula, values: &[u64], words: &[u64], walk: Walk) 
     let source = walk.source;
     match formula::node_at(file, m, id) {
         Node::Constant(v) => Move::Dry(source),
-        Node::Input(l) => Move::Dry(source),
+        Node::Input(p) => Move::Dry(source),
         Node::Unary(a) => Move::To(
             Walk {
                 node: a,

@@ -24,6 +24,7 @@ use Rattle.turns.specs.declared.End.the-variants.{Solved, Spent, Dry}
 use Rattle.turns.specs.declared.Outcome.{Outcome}
 use Rattle.report.specs.Report.{field, endWord, counts, firstLine, inputLine, lineOf, linesBelow, resultText}
 use Rattle.symbols.specs.declared.Named.the-variants as named
+use Rattle.symbols.specs.declared.Port.{Port}
 use Rattle.report.proofs.Lengths.{input-length, first-length}
 
 module _ (at n : Place) (o p : Text) where
@@ -40,9 +41,9 @@ module _ (at n : Place) (o p : Text) where
 
   -- put_line
   module _ (i : Id) (x : Node) (v : Value) where
-    pub line-input : (l : ℕ) → x ≡ node.Input l → WroteUpTo 54 (inputLine i l v) at o p n → WroteUpTo 54 (lineOf i (nodeIs x) v) at o p n
+    pub line-input : (q : Port) → x ≡ node.Input q → WroteUpTo 54 (inputLine i (q .label) v) at o p n → WroteUpTo 54 (lineOf i (nodeIs x) v) at o p n
     unfolding lineOf
-    line-input l h w = rw h w
+    line-input q h w = rw h w
 
 module _ (at : Place) (o : Text) (fits : at < 2 ^ 64) where
   module _ (i : Id) (x : Node) (v : Value) where

@@ -31,7 +31,7 @@ inputLine i label v = field "x" i ++ field " " label ++ field " " v ++ bytes "\n
 -- a node that is no input has no line
 unfoldable pub lineOf : Id → Node → Value → Text
 lineOf i (constant c) v = []
-lineOf i (input label) v = inputLine i label v
+lineOf i (input p) v = inputLine i (p .label) v
 lineOf i (unary a) v = []
 lineOf i (binary o a b) v = []
 

@@ -68,7 +68,7 @@ fn put_line(out: &mut [u8], at: usize, id: u32, n: Node, v: u64) -> usize
 {
     match n {
         Node::Constant(c) => at,
-        Node::Input(label) => put_input(out, at, id, label, v),
+        Node::Input(p) => put_input(out, at, id, p.label, v),
         Node::Unary(a) => at,
         Node::Binary(op, a, b) => at,
     }

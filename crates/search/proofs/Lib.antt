@@ -12,3 +12,4 @@ pub mod Alike
 pub mod Toy
 pub mod ToyLaws
 pub mod Witness
+pub mod Widths

@@ -58,7 +58,7 @@ module _ (P : Play) (f : Values → Id → Value → Place → Step) (longer : L
   pub search-longer : (b c : ℕ) (vs : Values) (n : Place) → b ≤ c → searchOf P b vs n .end ≡ solved → searchOf (withStep P f) c vs n ≡ searchOf P b vs n
   unfolding searchOf
   search-longer b c vs n h e =
-      by (eqb (valueOf vs (P .graph .root)) 1) _ _ _ (λ q. root-longer (landing (P .graph .node (P .graph .root))) b c (begin (P .graph .root) vs n) h q) e
+      by (eqb (valueOf vs (P .graph .root)) 1) _ _ _ (λ q. root-longer (landing (P .graph .node (P .graph .root)) 1) b c (begin (P .graph .root) vs n) h q) e
     where
       by : (t : Bool) (x y z : Out) → (y .end ≡ solved → z ≡ y) → pick t x y .end ≡ solved → pick t x z ≡ pick t x y
       by true x y z f e = refl

@@ -4,12 +4,16 @@ use Prim.Native.Nat.{ℕ, _<_, _≤_}
 use mathlib.Core.Path.{_≡_, refl, sym, ap, subst, _∙_}
 use mathlib.Core.Logic.{inl, inr}
 use mathlib.Core.List.{List, [], _∷_, _++_}
+use mathlib.Core.Bool.{Bool, true, false, true≢false}
 use native.Mathlib.Omega.{arith}
+use Rattle.laws.specs.Pick.{pick}
 use Rattle.words.specs.Words.{Place}
 use Rattle.symbols.specs.Graph.{Id, Value, Node, constant, input, unary, binary, Graph}
+use Rattle.symbols.specs.Width.{fits}
+use Rattle.symbols.proofs.Fitting.{one-fits}
 use Rattle.search.specs.Machine.{Values, valueOf, Play, St, End, solved, spent, ranDry, Out, stored, Landing, stores, loses, walks, landing, landingAt, begin, searchOf}
 use Rattle.search.specs.Round.{Comes, Round, roundOf, rootAfter, landed, lastAfter, lostOne, roundsOf, Leaves, Linked, NotOne, LastOne, last, earlier}
-use Rattle.search.specs.Solution.{Input, Right, Sane}
+use Rattle.search.specs.Solution.{Input, Fits, Right, Sane}
 use Rattle.search.specs.Demand.{All, none, more, FalseKinds, Fair, Concluded}
 use Rattle.search.specs.Result.{Says, RootSays, RanDry, Means, Counts}
 use Rattle.search.specs.Lawful.{Lawful, Forward}
@@ -18,7 +22,7 @@ use Rattle.search.proofs.Ends.{not-solved, dry-solved, run-unsolved, ru
 use Rattle.search.proofs.Counts.{run-rounds, run-lost, run-steps, run-spent, run-dry, run-few, run-made, run-exact, run-words, run-lent, lost-among}
 use Rattle.search.proofs.Unique.{unique-values, store-holds, store-sane}
 use Rattle.search.proofs.Hits.{Trail, starts}
-use Rattle.search.proofs.Rounds.{stores-input, Ready, comes-ready, run-sane, run-trails, run-fair}
+use Rattle.search.proofs.Rounds.{stores-input, stores-fits, Ready, comes-ready, run-sane, run-trails, run-fair}
 
 -- the last values, by the rounds
 last-sane : (g : Graph) (vs : Values) (rs : List Round) → Sane g vs → All (λ r. Sane g (r .after)) rs → Sane g (lastAfter vs rs)
@@ -56,10 +60,15 @@ none-later g [] r (y ∷ ys) (earlier r′ rs ne l) h = absurd (ne h)
 none-later g (x ∷ []) r later (earlier x′ rs ne l) h = none-later g [] r later l h
 none-later g (x ∷ (y ∷ pre)) r later (earlier x′ rs ne l) h = none-later g (y ∷ pre) r later l h
 
--- in values that solve the graph a constant root is 1, where no other is accepted
-loses-constant : (n : Node) (v : Id → Value) (i : Id) → landing n ≡ loses → ((c : Value) → n ≡ constant c → c ≡ 1) → Right n v i → v i ≡ 1
+one-stores : (b : Bool) → b ≡ true → pick b stores loses ≡ loses → ⊥
+one-stores true e q = let z : _≡_ {A = ℕ} 0 1 = cc in omega arith
+one-stores false e q = true≢false (sym e)
+
+-- in values that solve the graph a root that loses the round at once is 1: it is a constant, where no other is accepted, for 1
+-- fits every input
+loses-constant : (n : Node) (v : Id → Value) (i : Id) → landing n 1 ≡ loses → ((c : Value) → n ≡ constant c → c ≡ 1) → Right n v i → v i ≡ 1
 loses-constant (constant c) v i e f r = r ∙ f c refl
-loses-constant (input l) v i e f r = let z : _≡_ {A = ℕ} 0 1 = cc in absurd (omega arith)
+loses-constant (input p) v i e f r = absurd (one-stores (fits p 1) (one-fits p) e)
 loses-constant (unary a) v i e f r = let z : _≡_ {A = ℕ} 0 1 = cc in absurd (omega arith)
 loses-constant (binary o a b) v i e f r = let z : _≡_ {A = ℕ} 0 1 = cc in absurd (omega arith)
 
@@ -75,15 +84,18 @@ module _ {F : FalseKinds} {P : Play} (law : Lawful F P) (budget : ℕ) (vs : Val
 
   module _ (q : landingAt (P .graph) first ≡ stores) where
     root-input : Input (P .graph .node (P .graph .root))
-    root-input = stores-input (P .graph .node (P .graph .root)) q
+    root-input = stores-input (P .graph .node (P .graph .root)) 1 q
+
+    root-fits : Fits (P .graph .node (P .graph .root)) 1
+    root-fits = stores-fits (P .graph .node (P .graph .root)) 1 q
 
     root-one : valueOf (stored P first .vals) (P .graph .root) ≡ 1
-    root-one = store-holds P (law .acyclic) (law .redoes) vs sane (P .graph .root) 1 (law .rooted) root-input (omega arith)
+    root-one = store-holds P (law .acyclic) (law .redoes) vs sane (P .graph .root) 1 (law .rooted) root-input root-fits (omega arith)
 
     root-sane : Sane (P .graph) (stored P first .vals)
-    root-sane = store-sane P (law .acyclic) (law .redoes) vs sane (P .graph .root) 1 (law .rooted) root-input (omega arith)
+    root-sane = store-sane P (law .acyclic) (law .redoes) vs sane (P .graph .root) 1 (law .rooted) root-input root-fits (omega arith)
 
-    root-leaves : Leaves P (landing (P .graph .node (P .graph .root))) (roundOf [] first (stored P first .vals))
+    root-leaves : Leaves P (landing (P .graph .node (P .graph .root)) 1) (roundOf [] first (stored P first .vals))
     root-leaves = subst (λ (l : Landing). Leaves P l (roundOf [] first (stored P first .vals))) (sym q) refl
 
   by-end : (rs : List Round) (e : End) → (e ≡ solved → LastOne (P .graph) rs) → ((e ≡ solved → ⊥) → All (NotOne (P .graph)) rs) → (valueOf vs (P .graph .root) ≡ 1 → ⊥)

@@ -2,13 +2,16 @@
 use Prim.Native.Nat.{ℕ, _^_, _<_}
 use mathlib.Core.Path.{_≡_, refl, sym, subst, _∙_}
 use mathlib.Core.List.{List, _∷_}
+use mathlib.Core.Bool.{Bool, true, false}
 use native.Mathlib.Omega.{arith}
 use lib.ListN.{set}
+use Rattle.laws.specs.Pick.{pick}
 use Rattle.words.specs.Words.{Place}
 use Rattle.symbols.specs.Graph.{Id, Value, Node, constant, input, unary, binary}
+use Rattle.symbols.specs.Width.{fits}
 use Rattle.search.specs.Machine.{Values, valueOf, Choice, Play, St, Out, to, fresh, stored, Landing, stores, loses, walks, landing, landingAt, moved, stepAt, turnOf, on}
 use Rattle.search.specs.Round.{Comes, stays, turns, Taken, took, Round, roundOf, rootAfter}
-use Rattle.search.specs.Solution.{Input, Sane}
+use Rattle.search.specs.Solution.{Input, Fits, Sane}
 use Rattle.search.specs.Demand.{All, none, more, FalseKinds, Fair}
 use Rattle.search.specs.Lawful.{Led, Lawful}
 use Rattle.search.proofs.Runs.{Over, over, Runs, spends, driesAt, walksOn, solves, again}
@@ -16,17 +19,27 @@ use Rattle.search.proofs.Turns.{turn-all}
 use Rattle.search.proofs.Unique.{store-holds, store-sane, store-keeps}
 use Rattle.search.proofs.Hits.{Trail, starts, leadsOn, leads-operand, hits}
 
-pub input-stores : (n : Node) → Input n → landing n ≡ stores
-input-stores (constant c) h = absurd h
-input-stores (input l) h = refl
-input-stores (unary a) h = absurd h
-input-stores (binary o a b) h = absurd h
+pub input-stores : (n : Node) (t : Value) → Input n → Fits n t → landing n t ≡ stores
+input-stores (constant c) t h f = absurd h
+input-stores (input p) t h f = rw f
+input-stores (unary a) t h f = absurd h
+input-stores (binary o a b) t h f = absurd h
 
-pub stores-input : (n : Node) → landing n ≡ stores → Input n
-stores-input (constant c) e = let z : _≡_ {A = ℕ} 0 1 = cc in absurd (omega arith)
-stores-input (input l) e = tt
-stores-input (unary a) e = let z : _≡_ {A = ℕ} 0 1 = cc in absurd (omega arith)
-stores-input (binary o a b) e = let z : _≡_ {A = ℕ} 0 1 = cc in absurd (omega arith)
+pub stores-input : (n : Node) (t : Value) → landing n t ≡ stores → Input n
+stores-input (constant c) t e = let z : _≡_ {A = ℕ} 0 1 = cc in absurd (omega arith)
+stores-input (input p) t e = tt
+stores-input (unary a) t e = let z : _≡_ {A = ℕ} 0 1 = cc in absurd (omega arith)
+stores-input (binary o a b) t e = let z : _≡_ {A = ℕ} 0 1 = cc in absurd (omega arith)
+
+stored-true : (b : Bool) → pick b stores loses ≡ stores → b ≡ true
+stored-true true e = refl
+stored-true false e = let z : _≡_ {A = ℕ} 0 1 = cc in absurd (omega arith)
+
+pub stores-fits : (n : Node) (t : Value) → landing n t ≡ stores → Fits n t
+stores-fits (constant c) t e = tt
+stores-fits (input p) t e = stored-true (fits p t) e
+stores-fits (unary a) t e = tt
+stores-fits (binary o a b) t e = tt
 
 module _ {F : FalseKinds} {P : Play} (law : Lawful F P) where
   -- what holds of the state before every step
@@ -49,7 +62,9 @@ module _ {F : FalseKinds} {P : Play} (law : Lawful F P) where
     step-ready q = record { inside = step-inside; operator = q; below = step-led .below; sane = ready .sane }
 
     pub over-sane : (l : Landing) → landingAt (P .graph) (moved s x u n) ≡ l → Over l → Sane (P .graph) (over P l (moved s x u n) .vals)
-    over-sane stores q w = store-sane P (law .acyclic) (law .redoes) (s .vals) (ready .sane) x u step-inside (stores-input (P .graph .node x) q) (step-led .below)
+    over-sane stores q w =
+        store-sane P (law .acyclic) (law .redoes) (s .vals) (ready .sane) x u step-inside
+        (stores-input (P .graph .node x) u q) (stores-fits (P .graph .node x) u q) (step-led .below)
     over-sane loses q w = ready .sane
     over-sane walks q w = absurd w
 
@@ -61,13 +76,13 @@ module _ {F : FalseKinds} {P : Play} (law : Lawful F P) where
         → Fair F (P .graph) (roundOf (took s u c ∷ ss) (moved s x u n) vs) → valueOf (stored P (moved s x u n) .vals) (P .graph .root) ≡ 1
     fair-one ss vs t i f =
         hits F (valueOf (s .vals)) (valueOf (P .redo (set (s .vals) x u))) (P .graph) (law .acyclic)
-        (store-sane P (law .acyclic) (law .redoes) (s .vals) (ready .sane) x u step-inside i (step-led .below) .solution) x
-        (store-keeps P (law .acyclic) (law .redoes) (s .vals) (ready .sane) x u step-inside i (step-led .below))
+        (store-sane P (law .acyclic) (law .redoes) (s .vals) (ready .sane) x u step-inside i (f .fits) (step-led .below) .solution) x
+        (store-keeps P (law .acyclic) (law .redoes) (s .vals) (ready .sane) x u step-inside i (f .fits) (step-led .below))
         (step-trail t)
-        (store-holds P (law .acyclic) (law .redoes) (s .vals) (ready .sane) x u step-inside i (step-led .below)) (f .inverses) (f .honest) (f .passed)
+        (store-holds P (law .acyclic) (law .redoes) (s .vals) (ready .sane) x u step-inside i (f .fits) (step-led .below)) (f .inverses) (f .honest) (f .passed)
 
   -- the root of the graph is an operator wherever steps are made
-  module _ (root-operator : landing (P .graph .node (P .graph .root)) ≡ walks) where
+  module _ (root-operator : landing (P .graph .node (P .graph .root)) 1 ≡ walks) where
     pub fresh-ready : (s : St) → Sane (P .graph) (s .vals) → Ready (fresh (P .graph .root) s)
     fresh-ready s h = record { inside = law .rooted; operator = root-operator; below = omega arith; sane = h }
 
@@ -105,7 +120,7 @@ module _ {F : FalseKinds} {P : Play} (law : Lawful F P) where
     run-fair (walksOn e q r) d t = run-fair r (step-ready d e q) (step-trail d e t)
     run-fair (solves l e q w z) d t = more _ _ (λ i f. z) none
     run-fair (again {s} {x} {u} {n} {c} {ss = ss} l e q w z r) d t =
-        more _ _ (λ i f. by l (sym (input-stores (P .graph .node x) i) ∙ q) (fair-one d e ss _ t i f))
+        more _ _ (λ i f. by l (sym (input-stores (P .graph .node x) u i (f .fits)) ∙ q) (fair-one d e ss _ t i f))
         (run-fair r (fresh-ready (over P l (moved s x u n)) (over-sane d e l q w)) starts)
       where
         by : (l : Landing) → stores ≡ l → valueOf (stored P (moved s x u n) .vals) (P .graph .root) ≡ 1 → valueOf (over P l (moved s x u n) .vals) (P .graph .root) ≡ 1

@@ -9,7 +9,9 @@ use Rattle.laws.specs.Pick.{pick}
 use Rattle.bitvec.specs.Word.{bvsub, isZero}
 use Rattle.words.specs.Words.{Words, Place}
 use Rattle.symbols.specs.Graph.{Id, Value, Node, constant, input, unary, binary}
+use Rattle.symbols.specs.Width as width
 use Rattle.symbols.specs.Operators.{bySide, apply}
+use Rattle.symbols.specs.declared.Port.{Port}
 use Rattle.symbols.specs.declared.OperandSide.{OperandSide}
 use Rattle.symbols.specs.declared.OperandSide.the-variants.{Lhs, Rhs}
 use Rattle.symbols.specs.declared.BVOperator.{BVOperator}
@@ -47,7 +49,7 @@ kinds = record { atBinary = FalseAt; atNot = λ t. 1 < t }
 -- left, unless it is a constant
 abbrev pub sideBy : Node → OperandSide
 sideBy (constant c) = Rhs
-sideBy (input l) = Lhs
+sideBy (input p) = Lhs
 sideBy (unary a) = Lhs
 sideBy (binary o a b) = Lhs
 
@@ -62,14 +64,14 @@ nodeIn ns i = getD ns i (constant 0)
 
 abbrev pub stepBy : List Node → Words → Node → Values → Value → Place → Step
 stepBy ns ws (constant c) vs t n = dry n
-stepBy ns ws (input l) vs t n = dry n
+stepBy ns ws (input p) vs t n = dry n
 stepBy ns ws (unary a) vs t n = to a (isZero t) n byNot
 stepBy ns ws (binary o a b) vs t n = binaryStep o (sideBy (nodeIn ns a)) ws vs a b t n
 
 -- the operators worked out upward
 abbrev pub nodeValue : Node → Values → Id → Value
 nodeValue (constant c) vs i = valueOf vs i
-nodeValue (input l) vs i = valueOf vs i
+nodeValue (input p) vs i = valueOf vs i
 nodeValue (unary a) vs i = isZero (valueOf vs a)
 nodeValue (binary o a b) vs i = apply o (valueOf vs a) (valueOf vs b)
 
@@ -87,7 +89,7 @@ toy ns root ws = record {
 -- each node's operands are before it: the list begins with node i
 abbrev pub low : Node → Id → Bool
 low (constant c) i = true
-low (input l) i = true
+low (input p) i = true
 low (unary a) i = ltb a i
 low (binary o a b) i = ltb a i && ltb b i
 
@@ -95,10 +97,10 @@ abbrev pub sorted : List Node → Id → Bool
 sorted [] i = true
 sorted (n ∷ ns) i = low n i && sorted ns (i + 1)
 
--- values for the nodes, with the constants in place
+-- values for the nodes, with the constants in place and the inputs within their widths
 abbrev pub fits : Node → Value → Bool
 fits (constant c) v = eqb v c
-fits (input l) v = true
+fits (input p) v = width.fits p v
 fits (unary a) v = true
 fits (binary o a b) v = true
 
@@ -108,9 +110,13 @@ primes [] (v ∷ vs) = false
 primes (n ∷ ns) [] = false
 primes (n ∷ ns) (v ∷ vs) = ltb v (2 ^ 64) && (fits n v && primes ns vs)
 
+-- an input of 64 bits
+abbrev pub whole : Value → Port
+whole l = record { label = l; width = 0 }
+
 -- Not(Not(Equals(x + 3, y + 3))): the operand passed by is an operator. The first word makes the first round miss
 abbrev pub pairNodes : List Node
-pairNodes = input 40 ∷ constant 3 ∷ binary Add 0 1 ∷ input 41 ∷ binary Add 3 1 ∷ binary Equals 2 4 ∷ unary 5 ∷ unary 6 ∷ []
+pairNodes = input (whole 40) ∷ constant 3 ∷ binary Add 0 1 ∷ input (whole 41) ∷ binary Add 3 1 ∷ binary Equals 2 4 ∷ unary 5 ∷ unary 6 ∷ []
 
 abbrev pub pair : Play
 pair = toy pairNodes 7 (9 ∷ 0 ∷ 0 ∷ 0 ∷ [])
@@ -149,7 +155,7 @@ fixedNodes = constant 3 ∷ constant 4 ∷ binary Equals 0 1 ∷ []
 
 -- Equals(x + x, 10): the operand passed by is the input
 abbrev pub twiceNodes : List Node
-twiceNodes = input 40 ∷ binary Add 0 0 ∷ constant 10 ∷ binary Equals 1 2 ∷ []
+twiceNodes = input (whole 40) ∷ binary Add 0 0 ∷ constant 10 ∷ binary Equals 1 2 ∷ []
 
 abbrev pub twice : Play
 twice = toy twiceNodes 3 (0 ∷ 0 ∷ [])
@@ -165,7 +171,7 @@ twiceRound = record {
 
 -- Equals(Equals(x, 3), 2): a step of kind (b)
 abbrev pub unrealNodes : List Node
-unrealNodes = input 40 ∷ constant 3 ∷ binary Equals 0 1 ∷ constant 2 ∷ binary Equals 2 3 ∷ []
+unrealNodes = input (whole 40) ∷ constant 3 ∷ binary Equals 0 1 ∷ constant 2 ∷ binary Equals 2 3 ∷ []
 
 abbrev pub unreal : Play
 unreal = toy unrealNodes 4 (0 ∷ 0 ∷ [])
@@ -177,4 +183,20 @@ unrealRound = record {
   node = 0;
   target = 3;
   after = 3 ∷ 3 ∷ 1 ∷ 2 ∷ 0 ∷ [];
+}
+
+-- Equals(x, 10) with x of 3 bits: its round is lost, though the target is the one value that would do
+abbrev pub narrowNodes : List Node
+narrowNodes = input record { label = 40; width = 3 } ∷ constant 10 ∷ binary Equals 0 1 ∷ []
+
+abbrev pub narrow : Play
+narrow = toy narrowNodes 2 (0 ∷ [])
+
+abbrev pub narrowRound : Round
+narrowRound = record {
+  before = 7 ∷ 10 ∷ 0 ∷ [];
+  steps = taken 2 1 10 (inverse Lhs) ∷ [];
+  node = 0;
+  target = 10;
+  after = 7 ∷ 10 ∷ 0 ∷ [];
 }

@@ -8,6 +8,9 @@ use borrow.Author.Tests.{eqb-true, eqb-false, eq-eqb, ne-eqb}
 use Rattle.laws.specs.Pick.{pick}
 use Rattle.words.specs.Words.{Place}
 use Rattle.symbols.specs.Graph.{Id, Value, constant, input, unary, binary}
+use Rattle.symbols.specs.Width.{fits}
+use Rattle.symbols.proofs.Fitting.{one-fits}
+use Rattle.symbols.specs.declared.Port.{Port}
 use Rattle.symbols.specs.declared.BVOperator.{BVOperator}
 use Rattle.search.specs.Machine.{Values, valueOf, Choice, Step, to, dry, Play, St, solved, spent, Out, Next, done, on, ends, dries, fresh, round, stored, missed, Landing, stores, loses, walks, landing, landingAt, reached, moved, stepped, stepAt, turnOf, runFrom, begin, fromRoot, searchOf}
 use Rattle.search.specs.Lawful.{placeAfter, Forward}
@@ -24,9 +27,13 @@ round-starts root s h = rw (ne-eqb (valueOf (s .vals) root) 1 h)
 
 module _ (P : Play) (s : St) where
   -- where a step leads, by the node there
-  pub reached-input : (l : Value) → P .graph .node (s .node) ≡ input l → round (P .graph .root) (stored P s) ≡ reached P (landingAt (P .graph) s) s
+  pub reached-input : (p : Port) → P .graph .node (s .node) ≡ input p → fits p (s .target) ≡ true → round (P .graph .root) (stored P s) ≡ reached P (landingAt (P .graph) s) s
   unfolding reached
-  reached-input l e = rw e
+  reached-input p e f = rw (e, f)
+
+  pub reached-narrow : (p : Port) → P .graph .node (s .node) ≡ input p → fits p (s .target) ≡ false → round (P .graph .root) (missed s) ≡ reached P (landingAt (P .graph) s) s
+  unfolding reached
+  reached-narrow p e f = rw (e, f)
 
   pub reached-constant : (c : Value) → P .graph .node (s .node) ≡ constant c → round (P .graph .root) (missed s) ≡ reached P (landingAt (P .graph) s) s
   unfolding reached
@@ -102,15 +109,15 @@ module _ (P : Play) (budget : ℕ) (vs : Values) (n : Place) where
     unfolding searchOf
     search-from = rw (ne-eqb (valueOf vs (P .graph .root)) 1 ne)
 
-    pub search-input : (l : Value) → P .graph .node (P .graph .root) ≡ input l → ends solved (stored P (begin (P .graph .root) vs n)) ≡ searchOf P budget vs n
+    pub search-input : (p : Port) → P .graph .node (P .graph .root) ≡ input p → ends solved (stored P (begin (P .graph .root) vs n)) ≡ searchOf P budget vs n
     unfolding fromRoot
-    search-input l e = rw e at search-from
+    search-input p e = rw (e, one-fits p) at search-from
 
     pub search-constant : (c : Value) → P .graph .node (P .graph .root) ≡ constant c → ends spent (begin (P .graph .root) vs n) ≡ searchOf P budget vs n
     unfolding fromRoot
     search-constant c e = rw e at search-from
 
-    pub search-operator : landing (P .graph .node (P .graph .root)) ≡ walks → runFrom P budget (begin (P .graph .root) vs n) ≡ searchOf P budget vs n
+    pub search-operator : landing (P .graph .node (P .graph .root)) 1 ≡ walks → runFrom P budget (begin (P .graph .root) vs n) ≡ searchOf P budget vs n
     unfolding fromRoot
     search-operator e = rw e at search-from
 

@@ -12,8 +12,9 @@ use Rattle.bitvec.specs.Word.{isZero}
 use Rattle.symbols.specs.Graph.{Id, Value, Node, constant, input, unary, binary, Graph, Operand, direct, through, Sorted}
 use Rattle.symbols.specs.Order.{Acyclic}
 use Rattle.symbols.specs.Operators.{apply}
+use Rattle.symbols.specs.Width.{fits}
 use Rattle.search.specs.Machine.{Values, valueOf, Play}
-use Rattle.search.specs.Solution.{Input, Right, Solution, Sane, Primed}
+use Rattle.search.specs.Solution.{Input, Fits, Right, Solution, Sane, Primed}
 use Rattle.search.specs.Demand.{Free}
 use Rattle.search.specs.Lawful.{Redone, Redoes}
 use Rattle.search.proofs.Bounds.{bit-below, apply-below}
@@ -63,11 +64,11 @@ kept-input (input l) v w i h r = r
 kept-input (unary a) v w i h r = absurd h
 kept-input (binary o a b) v w i h r = absurd h
 
-right-after : (n : Node) (v w : Id → Value) (i : Id) → ((c : Value) → n ≡ constant c → v i ≡ c) → Redone n v w i → Right n w i
-right-after (constant c) v w i f r = r ∙ f c refl
-right-after (input l) v w i f r = tt
-right-after (unary a) v w i f r = r
-right-after (binary o a b) v w i f r = r
+right-after : (n : Node) (v w : Id → Value) (i : Id) → ((c : Value) → n ≡ constant c → v i ≡ c) → Fits n (v i) → Redone n v w i → Right n w i
+right-after (constant c) v w i f h r = r ∙ f c refl
+right-after (input p) v w i f h r = ap (fits p) r ∙ h
+right-after (unary a) v w i f h r = r
+right-after (binary o a b) v w i f h r = r
 
 redone-below : (n : Node) (v w : Id → Value) (i : Id) → v i < 2 ^ 64 → ((j : Id) → Operand n j → w j < 2 ^ 64) → Redone n v w i → w i < 2 ^ 64
 redone-below (constant c) v w i p f r = rw r p
@@ -75,7 +76,7 @@ redone-below (input l) v w i p f r = rw r p
 redone-below (unary a) v w i p f r = rw r (bit-below (eqb (w a) 0))
 redone-below (binary o a b) v w i p f r = rw r (apply-below o (w a) (w b) (f a (inl refl)) (f b (inr refl)))
 
--- there is a solution for any inputs: every operator worked out again from a list with its constants in place
+-- there is a solution for any inputs that fit: every operator worked out again from a list with its constants in place
 module _ (P : Play) (acyclic : Acyclic (P .graph)) (law : Redoes P) (vs : Values) (primed : Primed (P .graph) vs) where
   below-rank : (k : ℕ) (i : Id) → acyclic .rank i < k → i < P .graph .count → valueOf (P .redo vs) i < 2 ^ 64
   below-rank zero i p b = absurd (omega arith)
@@ -88,7 +89,7 @@ module _ (P : Play) (acyclic : Acyclic (P .graph)) (law : Redoes P) (vs : Values
     long = law .long vs (primed .long);
     below = λ i b. below-rank (suc (acyclic .rank i)) i (omega arith) b;
     solution = record {
-      right = λ i b. right-after (P .graph .node i) (valueOf vs) (valueOf (P .redo vs)) i (λ c e. primed .constants i c b e) (law .redone vs (primed .long) i b);
+      right = λ i b. right-after (P .graph .node i) (valueOf vs) (valueOf (P .redo vs)) i (λ c e. primed .constants i c b e) (primed .inputs i b) (law .redone vs (primed .long) i b);
     };
   }
 
@@ -102,9 +103,15 @@ constant-input e h = subst Input e h
 right-constant : {n : Node} (v : Id → Value) (i : Id) (c : Value) → n ≡ constant c → Right n v i → v i ≡ c
 right-constant v i c e r = subst (λ (m : Node). Right m v i) e r
 
+pub right-fits : (n : Node) (v : Id → Value) (i : Id) → Right n v i → Fits n (v i)
+right-fits (constant c) v i r = tt
+right-fits (input p) v i r = r
+right-fits (unary a) v i r = tt
+right-fits (binary o a b) v i r = tt
+
 -- "Reaching an input stores the target there and every operator is recomputed."
 module _ (P : Play) (acyclic : Acyclic (P .graph)) (law : Redoes P) (vs : Values) (sane : Sane (P .graph) vs) (x : Id) (u : Value)
-    (inside : x < P .graph .count) (inp : Input (P .graph .node x)) (small : u < 2 ^ 64) where
+    (inside : x < P .graph .count) (inp : Input (P .graph .node x)) (fit : Fits (P .graph .node x) u) (small : u < 2 ^ 64) where
   abbrev new : Values
   new = P .redo (set vs x u)
 
@@ -119,6 +126,17 @@ module _ (P : Play) (acyclic : Acyclic (P .graph)) (law : Redoes P) (vs : Values
             omega (arith, sane .below i b)
       ]
 
+  set-fits : (i : Id) → i < P .graph .count → Fits (P .graph .node i) (valueOf (set vs x u) i)
+  set-fits i b =
+      elim (ℕ-discrete i x) [
+        | yes z ↦
+            let e : valueOf (set vs x u) i ≡ u = ap (valueOf (set vs x u)) z ∙ getD-set-same vs x u 0 (omega (arith, sane .long)) in
+            subst (Fits (P .graph .node i)) (sym e) (subst (λ (y : Id). Fits (P .graph .node y) u) (sym z) fit)
+        | no z ↦
+            let e : valueOf (set vs x u) i ≡ valueOf vs i = getD-set-other vs x i u 0 z in
+            subst (Fits (P .graph .node i)) (sym e) (right-fits (P .graph .node i) (valueOf vs) i (sane .solution .right i b))
+      ]
+
   set-primed : Primed (P .graph) (set vs x u)
   set-primed = record {
     long = length-set vs x u ∙ sane .long;
@@ -126,6 +144,7 @@ module _ (P : Play) (acyclic : Acyclic (P .graph)) (law : Redoes P) (vs : Values
     constants = λ i c b e.
         getD-set-other vs x i u 0 (λ z. constant-input e (subst (λ (y : Id). Input (P .graph .node y)) (sym z) inp))
         ∙ right-constant (valueOf vs) i c e (sane .solution .right i b);
+    inputs = set-fits;
   }
 
   pub store-sane : Sane (P .graph) new

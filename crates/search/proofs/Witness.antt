@@ -1,4 +1,4 @@
--- Demand 3's premises can be met together, in a second round, and each of them is needed: three small graphs, by computation.
+-- Demand 3's premises can be met together, in a second round, and each of them is needed: four small graphs, by computation.
 -- Assumes nothing.
 use Prim.Native.Nat.{ℕ, zero, suc, _^_, _<_}
 use mathlib.Core.Path.{_≡_, refl, sym, ap, subst}
@@ -14,10 +14,10 @@ use Rattle.symbols.specs.Graph.{Id, Value, Node, constant, input, unary, binary
 use Rattle.symbols.specs.declared.BVOperator.{BVOperator}
 use Rattle.search.specs.Machine.{Values, valueOf, solved, spent, ranDry, round, reached, stepped, turnOf, runFrom, fromRoot, searchOf}
 use Rattle.search.specs.Round.{Taken, NotOne, roundsFrom, rootRounds, roundsOf}
-use Rattle.search.specs.Solution.{Sane, Primed}
+use Rattle.search.specs.Solution.{Fits, Sane, Primed}
 use Rattle.search.specs.Demand.{All, none, more, TookInverse, NotFalse, Free, PassedFree, Fair, Concluded}
 use Rattle.search.specs.Lawful.{Lawful}
-use Rattle.search.proofs.Toy.{kinds, nodeIn, passFrom, toy, fits, primes, pairNodes, pair, pairValues, pairFirst, pairSecond, fixedNodes, twiceNodes, twice, twiceRound, unrealNodes, unreal, unrealRound}
+use Rattle.search.proofs.Toy.{kinds, nodeIn, passFrom, toy, fits, primes, whole, pairNodes, pair, pairValues, pairFirst, pairSecond, fixedNodes, twiceNodes, twice, twiceRound, unrealNodes, unreal, unrealRound, narrowNodes, narrow, narrowRound}
 use Rattle.search.proofs.Unique.{redo-sane}
 use Rattle.search.proofs.Results.{demand-3}
 use Rattle.search.proofs.ToyLaws.{and-true, toy-lawful}
@@ -49,8 +49,25 @@ primes-constants (n ∷ ns) [] h i c b e = absurd (true≢false (sym h))
 primes-constants (n ∷ ns) (v ∷ vs) h zero c b e = fits-constant n v c (primes-head n ns v vs h .1) e
 primes-constants (n ∷ ns) (v ∷ vs) h (suc i) c b e = primes-constants ns vs (primes-head n ns v vs h .2) i c (omega arith) e
 
+fits-input : (n : Node) (v : Value) → fits n v ≡ true → Fits n v
+fits-input (constant c) v h = tt
+fits-input (input p) v h = h
+fits-input (unary a) v h = tt
+fits-input (binary o a b) v h = tt
+
+primes-inputs : (ns : List Node) (vs : Values) → primes ns vs ≡ true → (i : Id) → i < length ns → Fits (nodeIn ns i) (valueOf vs i)
+primes-inputs [] vs h i b = absurd (omega arith)
+primes-inputs (n ∷ ns) [] h i b = absurd (true≢false (sym h))
+primes-inputs (n ∷ ns) (v ∷ vs) h zero b = fits-input n v (primes-head n ns v vs h .1)
+primes-inputs (n ∷ ns) (v ∷ vs) h (suc i) b = primes-inputs ns vs (primes-head n ns v vs h .2) i (omega arith)
+
 primed : (ns : List Node) (root : Id) (ws : Words) (vs : Values) → primes ns vs ≡ true → Primed (toy ns root ws .graph) vs
-primed ns root ws vs h = record { long = primes-long ns vs h; below = primes-below ns vs h; constants = λ i c b e. primes-constants ns vs h i c b e }
+primed ns root ws vs h = record {
+  long = primes-long ns vs h;
+  below = primes-below ns vs h;
+  constants = λ i c b e. primes-constants ns vs h i c b e;
+  inputs = λ i b. primes-inputs ns vs h i b;
+}
 
 -- values that stay the same when every operator is worked out again
 pub start-sane : (ns : List Node) (root : Id) (ws : Words) → Lawful kinds (toy ns root ws) → (vs : Values) → primes ns vs ≡ true → passFrom ns 0 vs ≡ vs → Sane (toy ns root ws .graph) vs
@@ -105,12 +122,16 @@ four p q r s = more _ _ p (more _ _ q (more _ _ r (more _ _ s none)))
 two : {A : Taken → Type 0} {a b : Taken} → A a → A b → All A (a ∷ b ∷ [])
 two p q = more _ _ p (more _ _ q none)
 
+one : {A : Taken → Type 0} {a : Taken} → A a → All A (a ∷ [])
+one p = more _ _ p none
+
 -- the second round meets the premises
 pub pair-fair : Fair kinds (pair .graph) pairSecond
 pair-fair = record {
   inverses = four tt tt tt tt;
   honest = four (λ h. h) (λ h. omega arith) (λ h. omega arith) (λ h. omega arith);
   passed = four constant-passed pair-passed tt tt;
+  fits = refl;
 }
 
 -- and demand 3 says of it what is computed above
@@ -158,6 +179,29 @@ pub twice-missed : All (λ s. TookInverse (twice .graph .node (s .node)) s) (twi
     × All (λ s. NotFalse kinds (twice .graph .node (s .node)) (valueOf (twiceRound .before)) s) (twiceRound .steps) × NotOne (twice .graph) twiceRound
 twice-missed = (two tt tt, two (λ h. h) (λ h. omega arith), λ e. omega arith)
 
+-- without the target that fits: the one step took the inverse value, is of no false kind, and passes by a constant
+pub narrow-lawful : Lawful kinds narrow
+narrow-lawful = toy-lawful narrowNodes 2 _ refl (omega arith) (λ c e. absurd (not-binary e))
+
+pub narrow-sane : Sane (narrow .graph) (narrowRound .before)
+unfolding passFrom
+narrow-sane = start-sane narrowNodes 2 _ narrow-lawful (narrowRound .before) refl refl
+
+pub narrow-rounds : roundsOf narrow 1 (narrowRound .before) 0 ≡ narrowRound ∷ []
+unfolding roundsOf rootRounds roundsFrom reached round passFrom
+narrow-rounds = refl
+
+pub narrow-missed : All (λ s. TookInverse (narrow .graph .node (s .node)) s) (narrowRound .steps)
+    × All (λ s. NotFalse kinds (narrow .graph .node (s .node)) (valueOf (narrowRound .before)) s) (narrowRound .steps)
+    × All (λ s. PassedFree (narrow .graph) (narrow .graph .node (s .node)) 0 s) (narrowRound .steps) × NotOne (narrow .graph) narrowRound
+narrow-missed =
+    (one tt, one (λ h. omega arith), one (leaf-free (narrow .graph) 1 0 (λ j o. o) (λ z. omega arith)), λ e. omega arith)
+
+-- the round counts among the lost ones
+pub narrow-lost : searchOf narrow 1 (narrowRound .before) 0 ≡ record { end = spent; rounds = 1; lost = 1; steps = 1; words = 1; vals = 7 ∷ 10 ∷ 0 ∷ [] }
+unfolding searchOf fromRoot runFrom turnOf stepped reached round passFrom
+narrow-lost = refl
+
 -- a search that only loses rounds is spent at its budget, or runs dry where its words end
 pub lost-spent : searchOf (toy fixedNodes 2 (0 ∷ 0 ∷ 0 ∷ 0 ∷ [])) 3 (3 ∷ 4 ∷ 0 ∷ []) 0 ≡ record { end = spent; rounds = 3; lost = 3; steps = 3; words = 3; vals = 3 ∷ 4 ∷ 0 ∷ [] }
 unfolding searchOf fromRoot runFrom turnOf stepped reached round passFrom
@@ -168,6 +212,6 @@ unfolding searchOf fromRoot runFrom turnOf stepped reached round passFrom
 lost-dry = refl
 
 -- "A root input not yet 1 needs one round and no step."
-pub root-alone : searchOf (toy (input 40 ∷ []) 0 []) 0 (7 ∷ []) 0 ≡ record { end = solved; rounds = 1; lost = 0; steps = 0; words = 0; vals = 1 ∷ [] }
+pub root-alone : searchOf (toy (input (whole 40) ∷ []) 0 []) 0 (7 ∷ []) 0 ≡ record { end = solved; rounds = 1; lost = 0; steps = 0; words = 0; vals = 1 ∷ [] }
 unfolding searchOf fromRoot passFrom
 root-alone = refl

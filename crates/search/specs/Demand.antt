@@ -8,6 +8,7 @@ use Rattle.symbols.specs.declared.OperandSide.the-variants.{Lhs}
 use Rattle.symbols.specs.declared.BVOperator.{BVOperator}
 use Rattle.search.specs.Machine.{valueOf, Choice, byNot, inverse, consistent, solved, Out}
 use Rattle.search.specs.Round.{Taken, Round, rootAfter}
+use Rattle.search.specs.Solution.{Fits}
 
 -- every entry of a list
 pub data All {X : Type 0} (A : X → Type 0) : List X → Type 0 where
@@ -63,11 +64,12 @@ PassedFree g (input l) x s = Unit {0}
 PassedFree g (unary a) x s = Unit {0}
 PassedFree g (binary o a b) x s = Free g x (passedBy (s .choice) a b)
 
--- the three premises on a round
+-- the premises on a round; Q-3: "demand 3 gains the premise that the target fits"
 pub record Fair (F : FalseKinds) (g : Graph) (r : Round) : Type 0 where
   pub inverses : All (λ s. TookInverse (g .node (s .node)) s) (r .steps)
   pub honest : All (λ s. NotFalse F (g .node (s .node)) (valueOf (r .before)) s) (r .steps)
   pub passed : All (λ s. PassedFree g (g .node (s .node)) (r .node) s) (r .steps)
+  pub fits : Fits (g .node (r .node)) (r .target)
 
 -- "Then the root is 1 when the round ends, and the search stops there as solved.": `later` are the rounds after it
 pub record Concluded (g : Graph) (r : Round) (later : List Round) (o : Out) : Type 0 where

@@ -7,6 +7,7 @@ use lib.Dec.{eqb}
 use Rattle.laws.specs.Pick.{pick}
 use Rattle.words.specs.Words.{Place}
 use Rattle.symbols.specs.Graph.{Id, Value, Node, constant, input, unary, binary, Graph}
+use Rattle.symbols.specs.Width.{fits}
 use Rattle.symbols.specs.declared.OperandSide.{OperandSide}
 
 -- the values of all nodes, by id
@@ -95,7 +96,7 @@ stored P s = record {
   vals = P .redo (set (s .vals) (s .node) (s .target));
 }
 
--- "Reaching a constant is a lost round: nothing changes, the search goes on"
+-- "a lost round: nothing changes, the search goes on"
 abbrev pub missed : St → St
 missed s = record {
   node = s .node;
@@ -107,21 +108,22 @@ missed s = record {
   vals = s .vals;
 }
 
--- what reaching a node means: the round ends, stored or lost; or it goes on from an operator
+-- what reaching a node with a target means: the round ends, stored or lost; or it goes on from an operator
 pub data Landing : Type 0 where
   stores : Landing
   loses : Landing
   walks : Landing
 
-abbrev pub landing : Node → Landing
-landing (constant c) = loses
-landing (input l) = stores
-landing (unary a) = walks
-landing (binary o a b) = walks
+-- Q-3: "A round that brings a target of 2^width or more is a lost round."
+abbrev pub landing : Node → Value → Landing
+landing (constant c) t = loses
+landing (input p) t = pick (fits p t) stores loses
+landing (unary a) t = walks
+landing (binary o a b) t = walks
 
 -- at the node where the search stands
 abbrev pub landingAt : Graph → St → Landing
-landingAt g s = landing (g .node (s .node))
+landingAt g s = landing (g .node (s .node)) (s .target)
 
 unfoldable pub reached : Play → Landing → St → Next
 unfolding round

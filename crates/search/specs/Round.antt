@@ -83,7 +83,7 @@ lastAfter vs (r ∷ rs) = lastAfter (r .after) rs
 
 -- how the round ended
 abbrev pub landed : Graph → Round → Landing
-landed g r = landing (g .node (r .node))
+landed g r = landing (g .node (r .node)) (r .target)
 
 -- "rounds completed, lost ones among them"
 abbrev pub lostOne : Landing → ℕ

@@ -3,3 +3,4 @@ pub mod Tests
 pub mod Reaching
 pub mod Ranks
 pub mod Free
+pub mod Fitting

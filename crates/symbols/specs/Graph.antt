@@ -3,6 +3,7 @@ use Prim.Native.Nat.{ℕ, _<_}
 use mathlib.Core.Path.{_≡_}
 use mathlib.Core.Logic.{_⊎_}
 use Rattle.symbols.specs.declared.BVOperator.{BVOperator}
+use Rattle.symbols.specs.declared.Port.{Port}
 
 -- a node's id; a value of 64 bits
 abbrev pub Id : Type 0
@@ -11,10 +12,10 @@ Id = ℕ
 abbrev pub Value : Type 0
 Value = ℕ
 
--- a constant with its value, an input with its label, Not with its operand, any other operator with its two
+-- a constant with its value, an input with its label and width, Not with its operand, any other operator with its two
 pub data Node : Type 0 where
   constant : Value → Node
-  input : Value → Node
+  input : Port → Node
   unary : Id → Node
   binary : BVOperator → Id → Id → Node
 
@@ -26,7 +27,7 @@ pub record Graph : Type 0 where
 -- j is an operand of the node
 abbrev pub Operand : Node → Id → Type 0
 Operand (constant c) j = ⊥
-Operand (input l) j = ⊥
+Operand (input p) j = ⊥
 Operand (unary a) j = j ≡ a
 Operand (binary o a b) j = (j ≡ a) ⊎ (j ≡ b)
 

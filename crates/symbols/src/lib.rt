@@ -60,6 +60,14 @@ impl BVOperator {
     }
 }
 
+pub mod width;
+
+// An input: its label, and byte 4 of its record as it stands (specs/Width.antt reads it).
+pub struct Port {
+    pub label: u64,
+    pub width: u8,
+}
+
 // An input holds its label.
 pub enum Symbol {
     Constant(BitVector),

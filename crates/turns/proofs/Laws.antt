@@ -2,14 +2,19 @@
 use mathlib.Core.Path.{_≡_, refl, sym, ap, _∙_}
 use Prim.Native.Nat.{ℕ, _+_, _-_, _≤_, _<_}
 use mathlib.Core.List.{List, []}
+use mathlib.Core.Bool.{Bool, true, false}
 use native.Mathlib.Omega.{arith}
 use lib.ListN.{length, getD, set}
+use Rattle.laws.specs.Pick.{pick}
 use Rattle.bitvec.specs.declared.BitVector.{BitVector}
 use Rattle.words.specs.Words.{Words}
 use Rattle.words.specs.declared.WordSource.{WordSource}
 use Rattle.symbols.specs.Graph as graph
 use Rattle.symbols.specs.Graph.{Id, Graph}
+use Rattle.symbols.specs.Width.{fits}
+use Rattle.symbols.proofs.Fitting.{one-fits}
 use Rattle.symbols.specs.declared.SymbolId.{SymbolId}
+use Rattle.symbols.specs.declared.Port.{Port}
 use Rattle.symbols.specs.declared.BVOperator.{BVOperator}
 use Rattle.formula.specs.File.{File}
 use Rattle.formula.specs.Graph.{graphOf, nodeIs}
@@ -48,19 +53,27 @@ module _ (ρ : Rules) (f : File) (m : Formula) (order : List Id) (s : State) (vs
   abbrev Reached : Next → Type 0
   Reached x = x ≡ reached still (landingAt (graphOf f m) (stOf s vs)) (stOf s vs)
 
-  lands : (z : Node) → q ≡ z → (x : Next) → x ≡ reached still (landing (nodeIs z)) (stOf s vs) → Reached x
-  lands z e x h = h ∙ ap (λ (n : graph.Node). reached still (landing n) (stOf s vs)) (ap nodeIs (sym e) ∙ hq)
+  lands : (z : Node) → q ≡ z → (x : Next) → x ≡ reached still (landing (nodeIs z) (s .walk .target .0)) (stOf s vs) → Reached x
+  lands z e x h = h ∙ ap (λ (n : graph.Node). reached still (landing n (s .walk .target .0)) (stOf s vs)) (ap nodeIs (sym e) ∙ hq)
 
   pub land-constant : (v : BitVector) (x : Next) → q ≡ node.Constant v → x ≡ round (m .root .0) (missed (stOf s vs)) → Reached x
   unfolding reached graphOf
   land-constant v x e h = lands (node.Constant v) e x h
 
-  pub land-input : (l : ℕ) (us : Values) (x : Next) → q ≡ node.Input l → us ≡ along (graphOf f m) order (set vs (s .walk .node .0) (s .walk .target .0))
+  -- an input, by whether the target fits
+  inputs : (p : Port) (b : Bool) (x : Next) → q ≡ node.Input p → b ≡ fits p (s .walk .target .0) → x ≡ reached still (pick b stores loses) (stOf s vs) → Reached x
+  inputs p b x e hb h = lands (node.Input p) e x (h ∙ ap (λ (y : Bool). reached still (pick y stores loses) (stOf s vs)) hb)
+
+  pub land-narrow : (p : Port) (b : Bool) (x : Next) → q ≡ node.Input p → b ≡ fits p (s .walk .target .0) → b ≡ false → x ≡ round (m .root .0) (missed (stOf s vs)) → Reached x
+  unfolding reached graphOf
+  land-narrow p b x e hb z h = inputs p false x e (sym z ∙ hb) h
+
+  pub land-input : (p : Port) (b : Bool) (us : Values) (x : Next) → q ≡ node.Input p → b ≡ fits p (s .walk .target .0) → b ≡ true → us ≡ along (graphOf f m) order (set vs (s .walk .node .0) (s .walk .target .0))
       → x ≡ round (m .root .0) record { node = s .walk .node .0; target = s .walk .target .0; place = s .walk .source .at; rounds = s .rounds + 1; lost = s .lost; steps = s .steps; vals = us }
       → Reached x
   unfolding reached graphOf
-  land-input l us x e hu h =
-      lands (node.Input l) e x
+  land-input p b us x e hb z hu h =
+      inputs p true x e (sym z ∙ hb)
       (h
       ∙ ap
       (λ (ws : Values). round (m .root .0) record { node = s .walk .node .0; target = s .walk .target .0; place = s .walk .source .at; rounds = s .rounds + 1; lost = s .lost; steps = s .steps; vals = ws })
@@ -150,20 +163,22 @@ module _ (ρ : Rules) (f : File) (m : Formula) (order : List Id) (ws : Words) (b
   search-now e = turns.search-now P budget vs n (sym hv ∙ e)
 
   module _ (ne : v ≡ 1 → ⊥) (q : Node) (hq : nodeIs q ≡ graphOf f m .node (m .root .0)) where
-    rooted : (z : Node) → q ≡ z → (x : Out) → x ≡ fromRoot P (landing (nodeIs z)) budget here → x ≡ searchOf P budget vs n
+    rooted : (z : Node) → q ≡ z → (x : Out) → x ≡ fromRoot P (landing (nodeIs z) 1) budget here → x ≡ searchOf P budget vs n
     unfolding graphOf
     rooted z e x h =
-        h ∙ ap (λ (a : graph.Node). fromRoot P (landing a) budget here) (ap nodeIs (sym e) ∙ hq) ∙ search-from P budget vs n (λ y. ne (hv ∙ y))
+        h ∙ ap (λ (a : graph.Node). fromRoot P (landing a 1) budget here) (ap nodeIs (sym e) ∙ hq) ∙ search-from P budget vs n (λ y. ne (hv ∙ y))
 
     pub search-constant : (c : BitVector) → q ≡ node.Constant c → ends spent here ≡ searchOf P budget vs n
     unfolding fromRoot
     search-constant c e = rooted (node.Constant c) e _ refl
 
-    pub search-input : (l : ℕ) (us : Values) → q ≡ node.Input l → us ≡ along (graphOf f m) order (set vs (m .root .0) 1)
+    pub search-input : (p : Port) (us : Values) → q ≡ node.Input p → us ≡ along (graphOf f m) order (set vs (m .root .0) 1)
         → record { end = solved; rounds = 1; lost = 0; steps = 0; words = n; vals = us } ≡ searchOf P budget vs n
     unfolding fromRoot
-    search-input l us e h =
-        rooted (node.Input l) e _ (ap (λ (y : Values). record { end = solved; rounds = 1; lost = 0; steps = 0; words = n; vals = y }) h)
+    search-input p us e h =
+        rooted (node.Input p) e _
+        (ap (λ (y : Values). record { end = solved; rounds = 1; lost = 0; steps = 0; words = n; vals = y }) h
+        ∙ ap (λ (b : Bool). fromRoot P (pick b stores loses) budget here) (sym (one-fits p)))
 
     pub search-unary : (a : SymbolId) (x : Out) → q ≡ node.Unary a → x ≡ runFrom P budget here → x ≡ searchOf P budget vs n
     unfolding fromRoot

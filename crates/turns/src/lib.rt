@@ -10,7 +10,7 @@ ghost use mathlib.Core.Path.{_≡_};
 ghost use mathlib.Core.List.{[]};
 ghost use Prim.Native.Nat.{_≤_, _<_};
 ghost use Rattle.formula.specs.Graph.{graphOf};
-ghost use Rattle.search.specs.Machine.{round, landingAt, reached, turnOf, runFrom, begin, searchOf};
+ghost use Rattle.search.specs.Machine.{round, missed, landingAt, reached, turnOf, runFrom, begin, searchOf};
 ghost use Rattle.rules.specs.One.{one};
 ghost use Rattle.monster.specs.Step.{playAlong};
 ghost use Rattle.turns.specs.Turn.{stOf, outOf, nextOf};
@@ -71,6 +71,24 @@ fn next_round(values: &[u64], root: SymbolId, s: State) -> Turn
     })
 }
 
+// "a lost round: nothing changes, the search goes on"
+fn lose(values: &[u64], root: SymbolId, s: State) -> Turn
+    requires { ⌜ (s .rounds < 0xffff_ffff) × (s .lost < 0xffff_ffff) ⌝ }
+    ensures { λ r. ⌜ nextOf r (now (values .entry)) ≡ round (root .0) (missed (stOf s (now (values .entry)))) ⌝ }
+{
+    let walk = s.walk;
+    next_round(
+        values,
+        root,
+        State {
+            walk: walk,
+            rounds: s.rounds + 1,
+            lost: s.lost + 1,
+            steps: s.steps,
+        },
+    )
+}
+
 // What reaching a node means. No words are taken, so those of the play do not matter.
 fn land(file: &[u8], m: Formula, order: &[u32], values: &mut [u64], s: State) -> Turn
     requires { ⌜ (s .rounds < 0xffff_ffff) × (s .lost < 0xffff_ffff) ⌝ }
@@ -79,29 +97,24 @@ fn land(file: &[u8], m: Formula, order: &[u32], values: &mut [u64], s: State) ->
     let walk = s.walk;
     let id = walk.node;
     match formula::node_at(file, m, id) {
-        Node::Constant(v) => next_round(
-            values,
-            m.root,
-            State {
-                walk: walk,
-                rounds: s.rounds + 1,
-                lost: s.lost + 1,
-                steps: s.steps,
-            },
-        ),
-        Node::Input(l) => {
+        Node::Constant(v) => lose(values, m.root, s),
+        Node::Input(p) => {
             let t = walk.target;
-            assign::update_assignment(file, m, order, values, id, t);
-            next_round(
-                values,
-                m.root,
-                State {
-                    walk: walk,
-                    rounds: s.rounds + 1,
-                    lost: s.lost,
-                    steps: s.steps,
-                },
-            )
+            if p.fits(t) {
+                assign::update_assignment(file, m, order, values, id, t);
+                next_round(
+                    values,
+                    m.root,
+                    State {
+                        walk: walk,
+                        rounds: s.rounds + 1,
+                        lost: s.lost,
+                        steps: s.steps,
+                    },
+                )
+            } else {
+                lose(values, m.root, s)
+            }
         }
         Node::Unary(a) => Turn::On(s),
         Node::Binary(op, a, b) => Turn::On(s),
@@ -218,7 +231,7 @@ pub fn sat(
             steps: 0,
             words: source.at,
         },
-        Node::Input(l) => {
+        Node::Input(p) => {
             assign::update_assignment(file, m, order, values, root, BitVector(1));
             Outcome {
                 end: End::Solved,

@@ -5,4 +5,15 @@ use Rattle.checks.proofs.check_record.Statement.{statement}
 use Rattle.checks.proofs.check_record.Tie as tie
 
 pub check-record-spec : {M : Type 1} → statement M
-check-record-spec = tie.close (tie.spec (λ c κs. search needs) (λ c κs. search needs) (λ c κs. search needs) (λ c. search (record-bad, needs)) (λ c κs. search needs) (λ c κs. search needs) (λ c. search (record-order, needs)) (λ c. search (record-clear, needs)))
+check-record-spec =
+    tie.close
+    (tie.spec
+    (λ c κs. search needs)
+    (λ c κs. search needs)
+    (λ c κs. search needs)
+    (λ c κs. search needs)
+    (λ c κs. search needs)
+    (λ c. search (record-bad, needs))
+    (λ c κs. search needs)
+    (λ c. search (record-order, needs))
+    (λ c. search (record-clear, needs)))
