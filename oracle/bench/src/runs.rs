@@ -82,7 +82,7 @@ impl Sides {
 fn plain(node: &Node) -> file::Node {
     match *node {
         Node::Constant(value) => file::Node::Constant(value),
-        Node::Input(label) => file::Node::Input(label),
+        Node::Input(label) => file::Node::Input(label, 0),
         Node::Not(operand) => file::Node::Unary(operand),
         Node::Binary(op, left, right) => {
             let op = Operator::of(2 + op as u8).expect("kinds follow the operators");

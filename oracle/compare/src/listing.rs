@@ -208,9 +208,9 @@ fn longest() -> Vec<Plan> {
         let above = (1..LONGEST).map(|id| link(id - 1));
         let nodes: Vec<Node> = [Node::Input(5)].into_iter().chain(above).collect();
         let ids: Vec<usize> = (0..LONGEST).rev().collect();
-        let downward = graphs::under_new_ids(&nodes, LONGEST - 1, &ids);
-        let root = LONGEST - 1;
-        [Plan { nodes, root }, downward]
+        let plan = Plan::new(nodes, LONGEST - 1);
+        let downward = graphs::under_new_ids(&plan, &ids);
+        [plan, downward]
     };
     links.into_iter().flat_map(chain).collect()
 }

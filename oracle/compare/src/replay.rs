@@ -67,7 +67,7 @@ pub fn replay() -> bool {
     let list = std::fs::read(list).expect("the list can be read");
     let mut reader = Reader(&list);
     let mut waiting = Queue::default();
-    let mut marks = [0; 6];
+    let mut marks = [0; 7];
     for place in 0..reader.field() {
         let entry = reader.entry(place.into());
         marks[entry.fields[1] as usize] += 1;
@@ -81,13 +81,14 @@ pub fn replay() -> bool {
     conclude("replay", &[report])
 }
 
-fn print([rust, a, b, c, d, refused]: [u64; 6]) {
+fn print([rust, a, b, c, d, refused, narrow]: [u64; 7]) {
     let mut coverage = Coverage::default();
     let panics = a + b + c + d;
     let counts = [
         (rust, "the Rust's"),
         (panics, "where it panics"),
         (refused, "refused"),
+        (narrow, "narrow"),
     ];
     coverage.line("answers", &counts, true);
 }

@@ -5,6 +5,7 @@ use crate::limits::{random_graph, Random};
 use crate::operators::{binary, Operator, ALL};
 use crate::rules::{consistent, false_kind, inverse, reachable, Side};
 use crate::search::{solve, Choice, How, Outcome, Run};
+use crate::widths::fits;
 use crate::M;
 
 /// op with x on its side and s on the other.
@@ -92,14 +93,14 @@ fn no_rule_asks_an_empty_range() {
 }
 
 /// "'Solved' means root 1, constants kept, every operator right; 'spent' means
-/// no completed round made the root 1."
+/// no completed round made the root 1." And every input is below 2^width.
 fn result_is_right(graph: &Graph, run: &Run) {
     let root_of = |values: &[u64]| values[graph.root];
     assert_eq!(run.result == Outcome::Solved, root_of(&run.values) == 1);
     for (id, node) in graph.nodes.iter().enumerate() {
         match *node {
             Node::Constant(value) => assert_eq!(run.values[id], value),
-            Node::Input(_) => {}
+            Node::Input(_, width) => assert!(fits(run.values[id], width)),
             Node::Unary(a) => assert_eq!(run.values[id], u64::from(run.values[a] == 0)),
             Node::Binary(op, a, b) => {
                 assert_eq!(
@@ -137,7 +138,8 @@ fn sure(graph: &Graph, values: &[u64], choice: &Choice, input: usize) -> bool {
 }
 
 /// Demand 3: then "the root is 1 when the round ends, and the search stops
-/// there as solved". Answers how many rounds the condition held of.
+/// there as solved". It "gains the premise that the target fits": a round whose target
+/// does not is lost. Answers how many rounds the condition held of.
 fn sure_rounds_solve(graph: &Graph, run: &Run) -> usize {
     let mut from = 0;
     let mut held = 0;

@@ -23,7 +23,7 @@ pub fn renamed(old: &Graph, ids: &[usize]) -> Graph {
     let mut nodes = old.nodes.clone();
     for (id, node) in old.nodes.iter().enumerate() {
         nodes[ids[id]] = match *node {
-            Node::Constant(_) | Node::Input(_) => *node,
+            Node::Constant(_) | Node::Input(..) => *node,
             Node::Unary(operand) => Node::Unary(ids[operand]),
             Node::Binary(op, left, right) => Node::Binary(op, ids[left], ids[right]),
         };
@@ -77,7 +77,7 @@ fn one_cycle(n: usize, ids: &[usize], way: &str) -> Vec<Case> {
     let mut cases = Vec::new();
     let spare = (0..n).find(|id| !ids.contains(id)).unwrap_or(ids[0]);
     for (kind, link) in LINKS.iter().enumerate() {
-        let mut beside = vec![Node::Input(5); n];
+        let mut beside = vec![Node::Input(5, 0); n];
         close(&mut beside, ids, |next| link(next, spare));
         let mut above = vec![Node::Unary(ids[0]); n];
         close(&mut above, ids, |next| link(next, next));
@@ -189,7 +189,7 @@ mod tests {
     #[test]
     fn a_node_that_uses_itself() {
         assert_eq!(refusal(vec![Node::Unary(0)], 0), Refusal::Cycle(0));
-        let nodes = vec![Node::Input(0), Node::Binary(Add, 0, 1)];
+        let nodes = vec![Node::Input(0, 0), Node::Binary(Add, 0, 1)];
         assert_eq!(refusal(nodes, 0), Refusal::Cycle(1));
     }
 
@@ -323,8 +323,8 @@ mod tests {
         let nodes = vec![
             Node::Binary(Sub, 3, 2),
             Node::Constant(9),
-            Node::Input(0),
-            Node::Input(0),
+            Node::Input(0, 0),
+            Node::Input(0, 0),
         ];
         let answer = start(&graph(nodes, 0), &[7, 10, 30]);
         assert_eq!(answer, Some((vec![20, 9, 10, 30], 3)));

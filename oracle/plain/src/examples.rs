@@ -72,7 +72,7 @@ impl Example {
 }
 
 /// The folders that `retrylist` is run on too.
-const LISTED: [&str; 14] = [
+const LISTED: [&str; 15] = [
     "collision",
     "example",
     "operators-first",
@@ -87,12 +87,20 @@ const LISTED: [&str; 14] = [
     "cases/root-constant-1",
     "cases/spent-long",
     "cases/unreadable-file",
+    "cases/width-3-found",
 ];
 
 /// Every folder, the six first.
 pub fn all() -> Vec<Example> {
     let mut all = six();
-    for group in [bad_files(), cycles(), odd_files(), ends(), inputs()] {
+    for group in [
+        bad_files(),
+        cycles(),
+        odd_files(),
+        ends(),
+        widths(),
+        inputs(),
+    ] {
         for mut case in group {
             case.name = format!("cases/{}", case.name);
             all.push(case);
@@ -120,9 +128,9 @@ pub fn six() -> Vec<Example> {
 /// the question whether two different attempts write one slot.
 pub fn collision() -> Graph {
     let nodes = vec![
-        Node::Input(100),                // 0: base
-        Node::Input(1),                  // 1: first attempt
-        Node::Input(2),                  // 2: second attempt
+        Node::Input(100, 0),             // 0: base
+        Node::Input(1, 0),               // 1: first attempt
+        Node::Input(2, 0),               // 2: second attempt
         Node::Constant(8),               // 3: slots
         Node::Binary(Add, 0, 1),         // 4: base + first attempt
         Node::Binary(Add, 0, 2),         // 5: base + second attempt
@@ -151,7 +159,7 @@ const TRUE: u64 = 1 << 63;
 /// 4 Equals(2,3); root 4".
 pub fn document_01() -> Graph {
     let nodes = vec![
-        Node::Input(40),
+        Node::Input(40, 0),
         Node::Constant(3),
         Node::Binary(Add, 0, 1),
         Node::Constant(10),
@@ -163,7 +171,7 @@ pub fn document_01() -> Graph {
 /// A policy whose two attempts always carry one number: "one attempt" is
 /// folded to the constant 1, and the root asks for two.
 fn folded() -> Graph {
-    let nodes = vec![Node::Input(100), Node::Constant(1), Node::Unary(1)];
+    let nodes = vec![Node::Input(100, 0), Node::Constant(1), Node::Unary(1)];
     graph(nodes, 2)
 }
 
@@ -178,7 +186,7 @@ fn bad_files() -> Vec<Example> {
     let sound = document_01();
     let file = encode(&sound, b"");
     let zero = graph(vec![Node::Constant(0)], 0);
-    let two = graph(vec![Node::Input(5), Node::Constant(2)], 1);
+    let two = graph(vec![Node::Input(5, 0), Node::Constant(2)], 1);
     vec![
         with_file("refused-1-empty", vec![], &[0; 7]),
         with_file("refused-1-short", vec![0; 15], &[0; 7]),
@@ -192,6 +200,8 @@ fn bad_files() -> Vec<Example> {
         with_file("refused-3-too-far", with_field(&file, 0, 96), &[0; 7]),
         with_file("refused-4-kind", patched(&sound, 4, 0, 11), &[0; 7]),
         with_file("refused-4-byte", patched(&sound, 1, 7, 1), &[0; 7]),
+        with_file("refused-4-width", patched(&sound, 0, 4, 65), &[0; 7]),
+        with_file("refused-4-input-byte", patched(&sound, 0, 5, 1), &[0; 7]),
         with_file(
             "refused-4-before-5",
             both(patched(&sound, 2, 4, 5), 2 * 16 + 15, 1),
@@ -262,11 +272,11 @@ fn odd_files() -> Vec<Example> {
 fn ends() -> Vec<Example> {
     let sound = document_01();
     vec![
-        example("root-input", &graph(vec![Node::Input(5)], 0), &[9]),
-        example("root-input-1", &graph(vec![Node::Input(M)], 0), &[1]),
+        example("root-input", &graph(vec![Node::Input(5, 0)], 0), &[9]),
+        example("root-input-1", &graph(vec![Node::Input(M, 0)], 0), &[1]),
         example(
             "root-constant-1",
-            &graph(vec![Node::Constant(1), Node::Input(M)], 0),
+            &graph(vec![Node::Constant(1), Node::Input(M, 0)], 0),
             &[M],
         ),
         example("root-already-1", &sound, &[7, 0, 0]),
@@ -283,6 +293,22 @@ fn ends() -> Vec<Example> {
         example("dry-after-coin", &collision(), &collision_words()[..12]),
         example("every-kind", &every_kind(), &random_words(300, 8)),
         example("collision-at-random", &collision(), &random_words(300, 9)),
+    ]
+}
+
+/// Counters: inputs of fewer bits.
+fn widths() -> Vec<Example> {
+    let sound = document_01();
+    vec![
+        // The words of `example`, and its answer: 7 fits.
+        with_file("width-3-found", patched(&sound, 0, 4, 3), &[0; 7]),
+        // 7 does not fit, so every round is lost, until the words run out.
+        with_file("width-2-lost", patched(&sound, 0, 4, 2), &[0; 15]),
+        // 2^64 - 1 is cut to 1 by one bit.
+        example("width-1-root", &graph(vec![Node::Input(5, 1)], 0), &[M]),
+        // 23 is cut to 7: the root is 1 at the start.
+        with_file("width-3-start", patched(&sound, 0, 4, 3), &[23, 0, 0]),
+        with_file("width-64", patched(&sound, 0, 4, 64), &[0; 7]),
     ]
 }
 
@@ -308,7 +334,7 @@ fn inputs() -> Vec<Example> {
 /// takes the sum is lost.
 fn sum_of_constants() -> Graph {
     let nodes = vec![
-        Node::Input(5),
+        Node::Input(5, 0),
         Node::Constant(3),
         Node::Constant(4),
         Node::Binary(Add, 1, 2),
@@ -320,7 +346,7 @@ fn sum_of_constants() -> Graph {
 /// x is not 5.
 fn not_five() -> Graph {
     let nodes = vec![
-        Node::Input(5),
+        Node::Input(5, 0),
         Node::Constant(5),
         Node::Binary(Equals, 0, 1),
         Node::Unary(2),
@@ -331,7 +357,7 @@ fn not_five() -> Graph {
 /// x · 2 = 1, which has no solution.
 fn twice_is_one() -> Graph {
     let nodes = vec![
-        Node::Input(5),
+        Node::Input(5, 0),
         Node::Constant(2),
         Node::Binary(Mul, 0, 1),
         Node::Constant(1),

@@ -1,5 +1,5 @@
 //! Section "The graph file", with refusals 1 to 7 of "Numbers of refusal" and, of
-//! document 02, Q-1: "Nodes in any order", with refusal 13.
+//! document 02, Q-1: "Nodes in any order", with refusal 13, and the width of Q-3.
 
 use crate::operators::Operator;
 pub use crate::refusals::Refusal;
@@ -9,8 +9,9 @@ pub use crate::refusals::Refusal;
 pub enum Node {
     /// "Constants hold their value"
     Constant(u64),
-    /// "inputs a label (u64, may repeat)"
-    Input(u64),
+    /// "inputs a label (u64, may repeat)", and "Byte 4 of an input record now says its
+    /// width in bits": that byte as it is, so that 0 and 64 are kept apart.
+    Input(u64, u8),
     /// Not: "left (or only) operand"
     Unary(usize),
     /// "binary ones the right" operand too
@@ -82,10 +83,14 @@ fn node(record: &[u8], id: usize, count: usize) -> Result<Node, Refusal> {
     if kind > 10 || (0..16).any(|byte| !holds(kind, byte) && record[byte] != 0) {
         return Err(Refusal::Record(id));
     }
+    // "Refusals: 4 also for a width above 64."
+    if kind == 1 && record[4] > 64 {
+        return Err(Refusal::Record(id));
+    }
     let node = match Operator::of(kind) {
         // "0 Constant, 1 Input"
         None if kind == 0 => Node::Constant(u64_at(record, 8)),
-        None => Node::Input(u64_at(record, 8)),
+        None => Node::Input(u64_at(record, 8), record[4]),
         Some(Operator::Not) => Node::Unary(u32_at(record, 4)),
         Some(op) => Node::Binary(op, u32_at(record, 4), u32_at(record, 8)),
     };
@@ -150,6 +155,8 @@ pub fn holds(kind: u8, byte: usize) -> bool {
         (_, 0) => true,
         // "Constants hold their value, inputs a label …, in 8 to 15."
         (0 | 1, 8..=15) => true,
+        // "Byte 4 of an input record now says its width"
+        (1, 4) => true,
         // "left (or only) operand as u32 in bytes 4 to 7"
         (2..=10, 4..=7) => true,
         // "binary ones the right in 8 to 11"
@@ -161,7 +168,7 @@ pub fn holds(kind: u8, byte: usize) -> bool {
 /// The ids of a node's operands, left first.
 pub fn operands(node: &Node) -> Vec<usize> {
     match *node {
-        Node::Constant(_) | Node::Input(_) => vec![],
+        Node::Constant(_) | Node::Input(..) => vec![],
         Node::Unary(operand) => vec![operand],
         Node::Binary(_, left, right) => vec![left, right],
     }
@@ -183,13 +190,16 @@ pub fn encode(graph: &Graph, note: &[u8]) -> Vec<u8> {
 /// "n records of 16 bytes": the record of one node.
 pub fn record(node: &Node) -> [u8; 16] {
     let mut bytes = [0; 16];
+    if let Node::Input(_, width) = node {
+        bytes[4] = *width;
+    }
     bytes[0] = match node {
         Node::Constant(_) => 0,
-        Node::Input(_) => 1,
+        Node::Input(..) => 1,
         Node::Unary(_) => Operator::Not.kind(),
         Node::Binary(op, _, _) => op.kind(),
     };
-    if let Node::Constant(held) | Node::Input(held) = node {
+    if let Node::Constant(held) | Node::Input(held, _) = node {
         bytes[8..16].copy_from_slice(&held.to_le_bytes());
     }
     for (place, id) in operands(node).into_iter().enumerate() {

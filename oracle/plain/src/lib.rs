@@ -21,6 +21,7 @@ pub mod program;
 pub mod refusals;
 pub mod rules;
 pub mod search;
+pub mod widths;
 pub mod words;
 
 pub use refusals::Refusal;

@@ -5,6 +5,7 @@
 use crate::cycles::{self, new_ids, renamed};
 use crate::file::{encode, graph, holds, operands, record, Graph, Node};
 use crate::operators::{Operator, ALL};
+use crate::widths::{self, random_width};
 use crate::M;
 
 /// A named graph file.
@@ -25,6 +26,8 @@ pub fn cases() -> impl Iterator<Item = Case> {
         roots,
         constant_roots,
         zero_bytes,
+        widths::at_inputs,
+        widths::beside_other_faults,
         unknown_kinds,
         notes,
         several_faults,
@@ -41,7 +44,7 @@ pub fn every_kind() -> Graph {
     use Operator::*;
     let nodes = vec![
         Node::Constant(1),
-        Node::Input(7),
+        Node::Input(7, 0),
         Node::Binary(Add, 0, 1),
         Node::Binary(Sub, 2, 0),
         Node::Binary(Mul, 3, 2),
@@ -58,7 +61,7 @@ pub fn every_kind() -> Graph {
 /// n nodes: an input, then every node the Not of the one before it.
 pub fn chain(n: usize) -> Graph {
     let node = |id: usize| match id {
-        0 => Node::Input(0),
+        0 => Node::Input(0, 0),
         _ => Node::Unary(id - 1),
     };
     graph((0..n).map(node).collect(), n - 1)
@@ -256,7 +259,7 @@ fn constant_roots() -> Vec<Case> {
             format!("constant root {value} below another node"),
             encode(&first, b"n"),
         ));
-        let label = graph(vec![Node::Input(value)], 0);
+        let label = graph(vec![Node::Input(value, 0)], 0);
         cases.push((
             format!("input root with label {value}"),
             encode(&label, b""),
@@ -504,7 +507,7 @@ pub fn random_leaf(random: &mut Random) -> Node {
     let held = random.value();
     match random.below(3) {
         0 => Node::Constant(held),
-        _ => Node::Input(held),
+        _ => Node::Input(held, random_width(random)),
     }
 }
 
@@ -535,7 +538,7 @@ pub fn with_field(file: &[u8], field: usize, value: u32) -> Vec<u8> {
     file
 }
 
-fn put_u32(file: &mut [u8], at: usize, value: u32) {
+pub fn put_u32(file: &mut [u8], at: usize, value: u32) {
     file[at..at + 4].copy_from_slice(&value.to_le_bytes());
 }
 

@@ -51,7 +51,7 @@ pub fn listed(graph: &Graph) -> Vec<usize> {
 fn line(graph: &Graph, id: usize) -> String {
     match graph.nodes[id] {
         Node::Constant(value) => format!("x{id} := {value}"),
-        Node::Input(label) => format!("x{id} := \"{label}\""),
+        Node::Input(label, _) => format!("x{id} := \"{label}\""),
         Node::Unary(operand) => format!("x{id} := !x{operand}"),
         Node::Binary(op, left, right) => format!("x{id} := x{left} {} x{right}", op.sign()),
     }
@@ -81,7 +81,7 @@ mod tests {
     /// The longest line is that of an input with the last id and the largest label.
     #[test]
     fn the_longest_lines() {
-        let nodes = vec![Node::Input(M); 4_000];
+        let nodes = vec![Node::Input(M, 0); 4_000];
         let longest = text_of(&graph(nodes, 3_999));
         assert_eq!(longest, "x3999 := \"18446744073709551615\"\n");
     }
@@ -89,7 +89,11 @@ mod tests {
     /// "left operand first", whatever the ids are.
     #[test]
     fn left_first() {
-        let nodes = vec![Node::Binary(Sub, 2, 1), Node::Input(5), Node::Constant(9)];
+        let nodes = vec![
+            Node::Binary(Sub, 2, 1),
+            Node::Input(5, 0),
+            Node::Constant(9),
+        ];
         assert_eq!(
             text_of(&graph(nodes, 0)),
             "x2 := 9\nx1 := \"5\"\nx0 := x2 - x1\n"
@@ -100,8 +104,8 @@ mod tests {
     #[test]
     fn shared_and_unused() {
         let nodes = vec![
-            Node::Input(5),
-            Node::Input(6),
+            Node::Input(5, 0),
+            Node::Input(6, 0),
             Node::Binary(Add, 0, 0),
             Node::Binary(Add, 2, 0),
             Node::Unary(3),

@@ -102,7 +102,7 @@ fn case_13_choosing_word() {
 /// 4 Equals(2,3); root 4".
 fn example() -> Graph {
     let nodes = vec![
-        Node::Input(40),
+        Node::Input(40, 0),
         Node::Constant(3),
         Node::Binary(Operator::Add, 0, 1),
         Node::Constant(10),

@@ -65,7 +65,7 @@ fn solution(graph: &Graph, run: &Run) -> String {
         result, run.rounds, run.lost, run.steps, run.words
     );
     for (id, node) in graph.nodes.iter().enumerate() {
-        if let Node::Input(label) = node {
+        if let Node::Input(label, _) = node {
             text += &format!("x{} {} {}\n", id, label, run.values[id]);
         }
     }

@@ -1,10 +1,11 @@
-//! Section "Choice, round, search", with refusals 8 and 9.
+//! Section "Choice, round, search", with refusals 8 and 9, and Q-3's lost rounds.
 
 use std::sync::Arc;
 
 use crate::file::{check, Graph, Node};
 use crate::operators::{binary, not, Operator};
 use crate::rules::{consistent, inverse, reachable, unary, Side};
+use crate::widths::{fits, modulo};
 use crate::words::{coin, inverse_chosen, word, Draw};
 use crate::Refusal;
 
@@ -108,7 +109,8 @@ fn solve_into(
 }
 
 /// "Start: each non-constant id, upward, takes a word; then operators are
-/// worked out from their operands." And "Words at the start still go upward by id".
+/// worked out from their operands." And "Words at the start still go upward by id"; of
+/// an input "The starting word is taken modulo 2^width."
 pub fn start(graph: &Graph, words: &[u64]) -> Draw<Vec<u64>> {
     let mut values = Vec::new();
     let mut at = 0;
@@ -117,7 +119,10 @@ pub fn start(graph: &Graph, words: &[u64]) -> Draw<Vec<u64>> {
             values.push(*value);
         } else {
             let (w, after) = word(words, at)?;
-            values.push(w);
+            values.push(match node {
+                Node::Input(_, width) => modulo(w, *width),
+                _ => w,
+            });
             at = after;
         }
     }
@@ -130,7 +135,7 @@ pub fn start(graph: &Graph, words: &[u64]) -> Draw<Vec<u64>> {
 pub fn recompute(graph: &Graph, values: &mut [u64]) {
     for id in graph.order.iter().copied() {
         match graph.nodes[id] {
-            Node::Constant(_) | Node::Input(_) => {}
+            Node::Constant(_) | Node::Input(..) => {}
             Node::Unary(operand) => values[id] = not(values[operand]),
             Node::Binary(op, left, right) => {
                 values[id] = binary(op, values[left], values[right]).expect("binary operator");
@@ -217,11 +222,13 @@ fn descend(
 }
 
 /// "Reaching an input stores the target there and every operator is
-/// recomputed. Reaching a constant is a lost round: nothing changes". Answers
-/// whether the round is lost.
+/// recomputed. Reaching a constant is a lost round: nothing changes". And "A round that
+/// brings a target of 2^width or more is a lost round." Answers whether the round is
+/// lost.
 pub fn land(graph: &Graph, values: &mut Arc<Vec<u64>>, leaf: usize, target: u64) -> bool {
-    if let Node::Constant(_) = graph.nodes[leaf] {
-        return true;
+    match graph.nodes[leaf] {
+        Node::Input(_, width) if fits(target, width) => {}
+        _ => return true,
     }
     let mut next = values.to_vec();
     next[leaf] = target;
@@ -242,7 +249,7 @@ pub fn step(
     at: &mut usize,
 ) -> Option<Choice> {
     match graph.nodes[node] {
-        Node::Constant(_) | Node::Input(_) => None,
+        Node::Constant(_) | Node::Input(..) => None,
         Node::Unary(operand) => Some(Choice {
             node,
             target,
@@ -315,7 +322,7 @@ pub fn essential(
     side_of_p: Side,
 ) -> bool {
     let q = match graph.nodes[sibling] {
-        Node::Constant(_) | Node::Input(_) => return false,
+        Node::Constant(_) | Node::Input(..) => return false,
         Node::Unary(_) => Operator::Not,
         Node::Binary(op, _, _) => op,
     };

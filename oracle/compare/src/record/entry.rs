@@ -9,6 +9,8 @@ pub enum Mark {
     Panics(monster::Known),
     /// The plain reading's, since the question is refused.
     Refused,
+    /// The plain reading's, since an input has fewer than 64 bits.
+    Narrow,
 }
 
 impl Mark {
@@ -17,6 +19,7 @@ impl Mark {
             Mark::TheRust => 0,
             Mark::Panics(known) => 1 + known as u32,
             Mark::Refused => 5,
+            Mark::Narrow => 6,
         }
     }
 }

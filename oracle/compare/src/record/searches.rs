@@ -18,10 +18,11 @@ use crate::{
         paper,
         questions::{self, Seen},
         refusals::Refusals,
-        roots::Roots,
+        roots::{place, Roots, ENDS},
         runs::{self, Judge},
         rust,
         trace::{Case, Outcome, Plan},
+        widths::Widths,
     },
 };
 use monster::{BVOperator::*, End, Node};
@@ -40,7 +41,11 @@ pub struct Searches {
     cells: Cells,
     /// Those of graphs that are not sorted.
     unsorted: Cells,
+    /// Those of graphs with inputs of fewer than 64 bits.
+    narrow: Cells,
     roots: Roots,
+    narrow_roots: Roots,
+    widths: Widths,
     refusals: Refusals,
     places: Places,
 }
@@ -53,7 +58,10 @@ pub fn collect(most: usize, coverage: &mut Coverage) -> Vec<Entry> {
         shown: Shown::new(),
         cells: Cells::default(),
         unsorted: Cells::default(),
+        narrow: Cells::default(),
         roots: Roots::new(),
+        narrow_roots: Roots::new(),
+        widths: Widths::default(),
         refusals: Refusals::default(),
         places: Places::default(),
     };
@@ -78,7 +86,7 @@ fn example(budget: u32) -> Case {
         Node::Binary(Equals, 2, 3),
     ];
     Case {
-        plan: Rc::new(Plan { nodes, root: 4 }),
+        plan: Rc::new(Plan::new(nodes, 4)),
         words: vec![0; 7],
         budget,
     }
@@ -122,21 +130,24 @@ impl Searches {
         if self.is_full() || !small {
             return;
         }
-        let (Ok(paper), Some(rust)) = (paper::run(case), rust::run(case)) else {
+        let (Ok(paper), rust) = (paper::run(case), rust::run(case)) else {
             return;
         };
+        if rust.is_none() && case.plan.is_wide() {
+            return;
+        }
         let seen = Seen {
             case,
             paper: &paper,
-            rust: Some(&rust),
+            rust: rust.as_ref(),
         };
-        if self.shown.wants(&by_run(&seen, &rust)) {
-            self.count(&seen, &rust);
-            self.entries.push(entry(&seen, &rust));
+        if self.shown.wants(&by_run(&seen)) {
+            self.count(&seen);
+            self.entries.push(entry(&seen));
         }
     }
 
-    fn count(&mut self, seen: &Seen, rust: &monster::Run) {
+    fn count(&mut self, seen: &Seen) {
         let plan = &seen.case.plan;
         for round in 0..=seen.paper.log.rounds.len() {
             for step in log::steps(seen.case, seen.paper, round) {
@@ -145,17 +156,29 @@ impl Searches {
                     if !plan.is_sorted() {
                         self.unsorted.count(cell, seen.paper.result as usize);
                     }
+                    if !plan.is_wide() {
+                        self.narrow.count(cell, seen.paper.result as usize);
+                    }
                 }
             }
         }
-        self.roots.count(plan, rust);
-        self.places.count(&rust.end);
+        match seen.rust {
+            Some(rust) => {
+                self.roots.count(plan, place(&rust.end));
+                self.places.count(&rust.end);
+            }
+            None => self.narrow_roots.count(plan, seen.paper.result as usize),
+        }
+        self.widths.count(seen.case, seen.paper);
     }
 
     fn print(&self, coverage: &mut Coverage) {
         self.cells.print("steps", 3, coverage);
         self.unsorted.print("steps, unsorted", 3, coverage);
-        self.roots.print(coverage);
+        self.narrow.print("steps, narrow", 3, coverage);
+        self.roots.print("the Rust's", ENDS.len(), coverage);
+        self.narrow_roots.print("narrow", 3, coverage);
+        self.widths.print(coverage);
         self.refusals.print(coverage);
         self.places.print(coverage);
     }
@@ -174,11 +197,12 @@ fn shortened(case: &Case, run: &Run) -> Case {
     short
 }
 
-fn entry(seen: &Seen, rust: &monster::Run) -> Entry {
+fn entry(seen: &Seen) -> Entry {
     let answers = questions::result(seen);
-    let mark = match &rust.end {
-        End::Panicked(place) => Mark::Panics(place.known().expect("a known place")),
-        _ => Mark::TheRust,
+    let mark = match seen.rust.map(|rust| &rust.end) {
+        Some(End::Panicked(place)) => Mark::Panics(place.known().expect("a known place")),
+        Some(_) => Mark::TheRust,
+        None => Mark::Narrow,
     };
     let answer = answers.rust.unwrap_or(answers.paper.clone());
     assert_eq!(

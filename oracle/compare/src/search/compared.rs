@@ -6,11 +6,12 @@ use super::{
     panics::Panics,
     paper,
     questions::Seen,
-    roots::Roots,
+    roots::{place, Roots, ENDS},
     runs::Judge,
     rust,
     sides::Sides,
     trace::{Case, Outcome, Trace},
+    widths::Widths,
 };
 use crate::{
     coverage::Coverage,
@@ -26,6 +27,9 @@ pub struct Compared {
     panics: Panics,
     sides: Sides,
     roots: Roots,
+    /// Those of graphs with inputs of fewer than 64 bits, which the Rust is not asked of.
+    narrow: Roots,
+    widths: Widths,
     unfinished: u64,
     left_out: u64,
 }
@@ -39,8 +43,10 @@ impl Judge for Compared {
         let rust = rust::run(case);
         match &rust {
             Some(rust) => self.compare_rust(case, rust, &paper),
-            None => self.left_out += 1,
+            None if case.plan.is_wide() => self.left_out += 1,
+            None => self.narrow.count(&case.plan, paper.result as usize),
         }
+        self.widths.count(case, &paper);
         let seen = Seen {
             case,
             paper: &paper,
@@ -63,6 +69,8 @@ impl Compared {
             panics: Panics::new(),
             sides: Sides::new(),
             roots: Roots::new(),
+            narrow: Roots::new(),
+            widths: Widths::default(),
             unfinished: 0,
             left_out: 0,
         }
@@ -76,7 +84,7 @@ impl Compared {
         }
         self.unfinished += u64::from(rust.end == End::Dry && rust.unfinished > 0);
         self.sides.count(&case.plan, rust);
-        self.roots.count(&case.plan, rust);
+        self.roots.count(&case.plan, place(&rust.end));
     }
 
     /// Prints all figures; whether nothing differs and nothing is missing.
@@ -84,7 +92,9 @@ impl Compared {
         let mut coverage = Coverage::default();
         let ours = self.ours.conclude(&mut coverage);
         self.sides.print(&mut coverage);
-        self.roots.print(&mut coverage);
+        self.roots.print("with the Rust", ENDS.len(), &mut coverage);
+        self.narrow.print("narrow", 3, &mut coverage);
+        self.widths.print(&mut coverage);
         self.panics.places.print(&mut coverage);
         let mut runs = |name: &str, count: u64| coverage.line(name, &[(count, "runs")], true);
         runs("dry within a value that took words", self.unfinished);

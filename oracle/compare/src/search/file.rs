@@ -5,8 +5,8 @@ use monster::{BVOperator, Node};
 
 pub fn encode(plan: &Plan, note: &[u8]) -> Vec<u8> {
     let mut file = note.to_vec();
-    for node in &plan.nodes {
-        file.extend(record(node));
+    for (node, width) in plan.nodes.iter().zip(&plan.widths) {
+        file.extend(record(node, *width));
     }
     let distance = 16 * plan.nodes.len() as u32;
     for field in [distance, plan.root as u32, 1, 0] {
@@ -16,10 +16,11 @@ pub fn encode(plan: &Plan, note: &[u8]) -> Vec<u8> {
 }
 
 /// The kind in byte 0, then from byte 4 two words of four bytes or, from byte
-/// 8, one of eight.
-fn record(node: &Node) -> [u8; 16] {
+/// 8, one of eight; an input's width in byte 4.
+fn record(node: &Node, width: u8) -> [u8; 16] {
     let (low, high) = match *node {
-        Node::Constant(held) | Node::Input(held) => (0, held),
+        Node::Constant(held) => (0, held),
+        Node::Input(held) => (width.into(), held),
         Node::Not(operand) => (operand, 0),
         Node::Binary(_, left, right) => (left, right as u64),
     };

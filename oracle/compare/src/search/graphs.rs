@@ -14,8 +14,8 @@ use std::rc::Rc;
 
 const BINARY: [BVOperator; 8] = [Add, Sub, Mul, Divu, Sltu, Remu, Equals, BitwiseAnd];
 
-/// A graph with its root, most with new ids. Nearly all are accepted; a constant root
-/// other than 1 is not.
+/// A graph with its root, most with new ids, half of them with inputs of fewer bits.
+/// Nearly all are accepted; a constant root other than 1 is not.
 pub fn plan(random: &mut Random) -> Plan {
     let mut builder = Builder::new(random);
     builder.shape();
@@ -23,24 +23,34 @@ pub fn plan(random: &mut Random) -> Plan {
         builder.goal();
     }
     let root = builder.root();
-    let nodes = builder.nodes;
-    let ids = new_ids(nodes.len(), |most| random.below(most as u64) as usize);
-    under_new_ids(&nodes, root, &ids)
+    if builder.narrow {
+        builder.narrow_one();
+    }
+    let (nodes, widths) = (builder.nodes, builder.widths);
+    let plan = Plan {
+        nodes,
+        root,
+        widths,
+    };
+    let ids = new_ids(plan.nodes.len(), |most| random.below(most as u64) as usize);
+    under_new_ids(&plan, &ids)
 }
 
-pub fn under_new_ids(nodes: &[Node], root: usize, ids: &[usize]) -> Plan {
-    let mut moved = nodes.to_vec();
-    for (id, node) in nodes.iter().enumerate() {
-        moved[ids[id]] = renamed(*node, |operand| ids[operand]);
+pub fn under_new_ids(plan: &Plan, ids: &[usize]) -> Plan {
+    let mut moved = plan.clone();
+    for (id, node) in plan.nodes.iter().enumerate() {
+        moved.nodes[ids[id]] = renamed(*node, |operand| ids[operand]);
+        moved.widths[ids[id]] = plan.widths[id];
     }
-    Plan {
-        nodes: moved,
-        root: ids[root],
-    }
+    moved.root = ids[plan.root];
+    moved
 }
 
 struct Builder<'a> {
     nodes: Vec<Node>,
+    widths: Vec<u8>,
+    /// Whether inputs may have fewer than 64 bits.
+    narrow: bool,
     random: &'a mut Random,
     palette: Vec<BVOperator>,
     constants: u64,
@@ -56,8 +66,11 @@ impl Builder<'_> {
                 .collect(),
         };
         let constants = [0, 2, 5][random.below(3) as usize];
+        let narrow = random.below(2) == 0;
         Builder {
             nodes: Vec::new(),
+            widths: Vec::new(),
+            narrow,
             random,
             palette,
             constants,
@@ -66,6 +79,7 @@ impl Builder<'_> {
 
     fn push(&mut self, node: Node) -> usize {
         self.nodes.push(node);
+        self.widths.push(0);
         self.nodes.len() - 1
     }
 
@@ -83,7 +97,29 @@ impl Builder<'_> {
             0 => self.random.below(3),
             _ => self.random.number(),
         };
-        self.push(Node::Input(label))
+        let width = self.width();
+        let id = self.push(Node::Input(label));
+        self.widths[id] = width;
+        id
+    }
+
+    /// Few bits, any number of them, or 64 written in both ways.
+    fn width(&mut self) -> u8 {
+        let width = match self.random.below(4) {
+            0 => 64,
+            1 if self.narrow => 1 + self.random.below(8),
+            2 if self.narrow => 1 + self.random.below(63),
+            _ => 0,
+        };
+        width as u8
+    }
+
+    /// Some input, if there is one, gets fewer bits, so that one of them has.
+    fn narrow_one(&mut self) {
+        let input = |id: &usize| matches!(self.nodes[*id], Node::Input(_));
+        if let Some(id) = (0..self.nodes.len()).find(input) {
+            self.widths[id] = 1 + self.random.below(63) as u8;
+        }
     }
 
     fn leaf(&mut self) -> usize {
@@ -201,7 +237,9 @@ impl Builder<'_> {
         let attempt = self.any();
         for id in 0..count {
             let copy = renamed(self.nodes[id], |operand| operand + count);
-            self.push(copy);
+            let width = self.widths[id];
+            let id = self.push(copy);
+            self.widths[id] = width;
         }
         let slots = self.push(Node::Binary(Equals, slot, slot + count));
         let attempts = self.push(Node::Binary(Equals, attempt, attempt + count));
@@ -224,10 +262,14 @@ impl Builder<'_> {
 
     /// A constant that the node is for some inputs.
     fn value_of(&mut self, top: usize) -> usize {
-        let nodes = self.nodes.clone();
+        let (nodes, widths) = (self.nodes.clone(), self.widths.clone());
         let words = nodes.iter().map(|_| self.random.number()).collect();
         let start = Case {
-            plan: Rc::new(Plan { nodes, root: top }),
+            plan: Rc::new(Plan {
+                nodes,
+                root: top,
+                widths,
+            }),
             words,
             budget: 0,
         };

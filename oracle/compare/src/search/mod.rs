@@ -18,6 +18,7 @@ pub mod runs;
 pub mod rust;
 pub mod sides;
 pub mod trace;
+pub mod widths;
 
 use crate::numbers::Random;
 use compared::Compared;

@@ -43,6 +43,8 @@ pub struct Ours {
     with_rust: Cells,
     /// Of those with the Rust, the ones of graphs that are not sorted.
     unsorted: Cells,
+    /// Of those with the paper, the ones of graphs with inputs of fewer than 64 bits.
+    narrow: Cells,
     refusals: Refusals,
 }
 
@@ -54,6 +56,7 @@ impl Ours {
             with_paper: Cells::default(),
             with_rust: Cells::default(),
             unsorted: Cells::default(),
+            narrow: Cells::default(),
             refusals: Refusals::default(),
         }
     }
@@ -112,6 +115,9 @@ impl Ours {
             return;
         };
         self.with_paper.count(cell, seen.paper.result as usize);
+        if !seen.case.plan.is_wide() {
+            self.narrow.count(cell, seen.paper.result as usize);
+        }
         if let (Some(rust), Some(_)) = (seen.rust, &answers.rust) {
             self.with_rust.count(cell, place(&rust.end));
             if !seen.case.plan.is_sorted() {
@@ -170,6 +176,7 @@ impl Ours {
         self.with_rust.print("with the Rust", ENDS.len(), coverage);
         self.unsorted
             .print("with the Rust, unsorted", ENDS.len(), coverage);
+        self.narrow.print("with the paper, narrow", 3, coverage);
         self.refusals.print(coverage);
         self.reports
     }

@@ -2,7 +2,7 @@
 
 use super::{file, trace::Plan};
 use crate::coverage::Coverage;
-use monster::{End, Run};
+use monster::End;
 
 /// By their numbers in the graph file.
 pub const KINDS: [&str; 11] = [
@@ -39,16 +39,18 @@ impl Roots {
         Roots(Default::default())
     }
 
-    pub fn count(&mut self, plan: &Plan, run: &Run) {
+    /// The place of the ending among ENDS.
+    pub fn count(&mut self, plan: &Plan, end: usize) {
         let kind = file::kind(&plan.nodes[plan.root]) as usize;
-        self.0[kind][place(&run.end)] += 1;
+        self.0[kind][end] += 1;
     }
 
-    /// A leaf as root is solved at once or after one round; other roots end in every way.
-    pub fn print(&self, coverage: &mut Coverage) {
+    /// A leaf as root is solved at once or after one round; other roots end in every
+    /// way. The first so many endings can occur.
+    pub fn print(&self, of: &str, ends: usize, coverage: &mut Coverage) {
         for (kind, counts) in self.0.iter().enumerate() {
-            let name = format!("root {}", KINDS[kind]);
-            let counts: Vec<(u64, &str)> = counts.iter().copied().zip(ENDS).collect();
+            let name = format!("{of}, root {}", KINDS[kind]);
+            let counts: Vec<(u64, &str)> = counts.iter().copied().zip(ENDS).take(ends).collect();
             if kind < LEAVES {
                 coverage.line(&name, &counts[..1], true);
                 coverage.line(&name, &counts[1..], false);

@@ -7,7 +7,11 @@ use monster::{End, Graph, Node, OperandSide, Run};
 /// propagation follows every path.
 const MOST: u64 = 100_000;
 
+/// None where its propagation explodes, or an input has fewer than 64 bits.
 pub fn run(case: &Case) -> Option<Run> {
+    if !case.plan.is_wide() {
+        return None;
+    }
     let graph = Graph::new(&case.plan.nodes, case.plan.root);
     (graph.start_cost() <= MOST).then(|| monster::run(&graph, &case.words, case.budget))
 }

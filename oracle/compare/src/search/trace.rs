@@ -9,9 +9,26 @@ use std::rc::Rc;
 pub struct Plan {
     pub nodes: Vec<Node>,
     pub root: usize,
+    /// The width byte of each input, 0 for other nodes: the Rust knows of none.
+    pub widths: Vec<u8>,
 }
 
 impl Plan {
+    /// With inputs as old files have them.
+    pub fn new(nodes: Vec<Node>, root: usize) -> Plan {
+        let widths = vec![0; nodes.len()];
+        Plan {
+            nodes,
+            root,
+            widths,
+        }
+    }
+
+    /// Whether all inputs have 64 bits, so that the Rust can be asked too.
+    pub fn is_wide(&self) -> bool {
+        self.widths.iter().all(|width| matches!(width, 0 | 64))
+    }
+
     /// Whether each operand stands below its node.
     pub fn is_sorted(&self) -> bool {
         let mut nodes = self.nodes.iter().enumerate();
