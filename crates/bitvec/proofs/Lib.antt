@@ -1,4 +1,5 @@
 pub mod Inverses
 pub mod Laws
+pub mod Columns
 pub mod Text
 pub mod SmtLib

@@ -6,6 +6,7 @@ ghost use Rattle.bitvec.specs.Word.{M, bvadd, bvneg, bvsub, bvmul, bvudi
 
 pub mod debug;
 pub mod inverse;
+pub mod product;
 
 pub struct BitVector(pub u64);
 
@@ -184,14 +185,6 @@ impl BitVector {
     pub fn mulo(self, b: BitVector) -> bool
         ensures { λ r. ⌜ r ≡ mulo (self .0) (b .0) ⌝ }
     {
-        let x = self.0;
-        let y = b.0;
-        if x == 0 {
-            return false;
-        }
-        if u64::MAX / x < y {
-            return true;
-        }
-        false
+        self.mulhi(b).0 != 0
     }
 }

@@ -1,6 +1,8 @@
-//! Times our search and the original Rust's on the same graphs with the same words.
+//! Times our search and the original Rust's on the same graphs with the same words;
+//! with the argument `mulo` that operation alone.
 
 mod families;
+mod mulo;
 mod policy;
 mod runs;
 mod table;
@@ -14,6 +16,13 @@ const STEPS: u64 = 100_000;
 fn main() {
     monster::refuse_other_builds();
     assert!(ours::LINKED, "the time of an emulated search says nothing about it");
+    match std::env::args().nth(1).as_deref() {
+        Some("mulo") => mulo::print(),
+        _ => searches(),
+    }
+}
+
+fn searches() {
     table::begin();
     for family in &FAMILIES {
         let rows = family.sizes.iter().map(|size| row(family, *size));

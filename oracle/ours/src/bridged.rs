@@ -53,6 +53,14 @@ fn receive(bridge: &mut Child) -> io::Result<Vec<u64>> {
         .collect())
 }
 
+pub fn bitvec(op: u64, a: u64, b: u64) -> [u64; 2] {
+    let mut queue = Queue::default();
+    queue.bitvec((), op, a, b);
+    let mut found = [0; 2];
+    queue.answer(|(), answer| found.copy_from_slice(answer));
+    found
+}
+
 pub fn solve(file: &[u8], words: &[u64], budget: u32, values: &mut [u64]) -> Result {
     let mut queue = Queue::default();
     queue.lend_file(file);

@@ -11,7 +11,7 @@ mod raw;
 #[cfg_attr(not(linked), path = "bridged.rs")]
 mod library;
 
-pub use library::solve;
+pub use library::{bitvec, solve};
 pub use queue::Queue;
 
 /// Whether the library is part of this program; else an emulator runs it, and the

@@ -10,7 +10,7 @@ const UNWRITTEN: u64 = 0xdead_beef_dead_beef;
 
 // SAFETY of all calls: a buffer is as long as is said, and is used during the call only.
 
-fn bitvec(op: u64, a: u64, b: u64) -> [u64; 2] {
+pub fn bitvec(op: u64, a: u64, b: u64) -> [u64; 2] {
     let mut out = [UNWRITTEN; 2];
     unsafe { raw::bitvec_op(op, a, b, out.as_mut_ptr(), out.len()) };
     out
