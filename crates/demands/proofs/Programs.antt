@@ -8,7 +8,7 @@ use Rattle.laws.specs.Rows.{first}
 use Rattle.laws.specs.Newton.{lifts}
 use Rattle.bitvec.specs.Word.{M}
 use Rattle.bitvec.specs.Inverse.{inverseOf}
-use Rattle.words.specs.Words.{Words, drawAt, rangeAt, coinAt, choosingAt, twoFrom, twoAt, untilNot, notAt}
+use Rattle.words.specs.Words.{Words, drawAt, rangeAt, coinAt, choosingAt, twoFrom, twoAt, redraw, notAt}
 use Rattle.symbols.specs.Reaching.{reachesBelow, reaches}
 use Rattle.formula.specs.File.{File, le32, le64, zeros, trailerOf, formulaOf, recordAt}
 use Rattle.formula.specs.Graph.{kindNo, graphOf}
@@ -103,27 +103,27 @@ module _ (p : Program) (permitted : Permitted p) where
 
 -- programs by other rules: a call whose words or first value they answer otherwise
 consistent-words : wordsIn (answer alwaysConsistent quotientFile cases.zeros 2 (ones 5)) ≡ 5
-unfolding first drawAt rangeAt coinAt choosingAt twoFrom twoAt untilNot notAt le32 le64 zeros trailerOf formulaOf recordAt kindNo graphOf reachesBelow reaches headRows rowsOf recordRows cycleRows rootRows bodyRows checks verdict round reached stepped turnOf runFrom fromRoot searchOf tableSays invertAt valueAt mulValue inverseAt consistentAt hindersOne worth eachBelow settle wantedUpTo wanted firstOf givenUpTo startFrom startOf essential sides wayAt alongWay stepFrom lentRows onGraph answer
+unfolding first drawAt rangeAt coinAt choosingAt twoFrom twoAt redraw notAt le32 le64 zeros trailerOf formulaOf recordAt kindNo graphOf reachesBelow reaches headRows rowsOf recordRows cycleRows rootRows bodyRows checks verdict round reached stepped turnOf runFrom fromRoot searchOf tableSays invertAt valueAt mulValue inverseAt consistentAt hindersOne worth eachBelow settle wantedUpTo wanted firstOf givenUpTo startFrom startOf essential sides wayAt alongWay stepFrom lentRows onGraph answer
 consistent-words = refl
 
 own-words : wordsIn (answer ownOperator productFile productWords 1 (ones 4)) ≡ 7
-unfolding first drawAt rangeAt coinAt choosingAt twoFrom twoAt untilNot notAt le32 le64 zeros trailerOf formulaOf recordAt kindNo graphOf reachesBelow reaches headRows rowsOf recordRows cycleRows rootRows bodyRows checks verdict round reached stepped turnOf runFrom fromRoot searchOf tableSays invertAt valueAt mulValue inverseAt consistentAt hindersOne worth eachBelow settle wantedUpTo wanted firstOf givenUpTo startFrom startOf essential sides wayAt alongWay stepFrom lentRows onGraph answer
+unfolding first drawAt rangeAt coinAt choosingAt twoFrom twoAt redraw notAt le32 le64 zeros trailerOf formulaOf recordAt kindNo graphOf reachesBelow reaches headRows rowsOf recordRows cycleRows rootRows bodyRows checks verdict round reached stepped turnOf runFrom fromRoot searchOf tableSays invertAt valueAt mulValue inverseAt consistentAt hindersOne worth eachBelow settle wantedUpTo wanted firstOf givenUpTo startFrom startOf essential sides wayAt alongWay stepFrom lentRows onGraph answer
 own-words = refl
 
 product-words : wordsIn (answer one productFile productWords 1 (ones 4)) ≡ 6
-unfolding first drawAt rangeAt coinAt choosingAt twoFrom twoAt untilNot notAt le32 le64 zeros trailerOf formulaOf recordAt kindNo graphOf reachesBelow reaches headRows rowsOf recordRows cycleRows rootRows bodyRows checks verdict round reached stepped turnOf runFrom fromRoot searchOf tableSays invertAt valueAt mulValue inverseAt consistentAt hindersOne worth eachBelow settle wantedUpTo wanted firstOf givenUpTo startFrom startOf essential sides wayAt alongWay stepFrom lentRows onGraph answer
+unfolding first drawAt rangeAt coinAt choosingAt twoFrom twoAt redraw notAt le32 le64 zeros trailerOf formulaOf recordAt kindNo graphOf reachesBelow reaches headRows rowsOf recordRows cycleRows rootRows bodyRows checks verdict round reached stepped turnOf runFrom fromRoot searchOf tableSays invertAt valueAt mulValue inverseAt consistentAt hindersOne worth eachBelow settle wantedUpTo wanted firstOf givenUpTo startFrom startOf essential sides wayAt alongWay stepFrom lentRows onGraph answer
 product-words = refl
 
 without-words : wordsIn (answer noConsistent quotientFile cases.zeros 2 (ones 5)) ≡ 5
-unfolding first drawAt rangeAt coinAt choosingAt twoFrom twoAt untilNot notAt le32 le64 zeros trailerOf formulaOf recordAt kindNo graphOf reachesBelow reaches headRows rowsOf recordRows cycleRows rootRows bodyRows checks verdict round reached stepped turnOf runFrom fromRoot searchOf tableSays invertAt valueAt mulValue inverseAt consistentAt hindersOne worth eachBelow settle wantedUpTo wanted firstOf givenUpTo startFrom startOf essential sides wayAt alongWay stepFrom lentRows onGraph answer
+unfolding first drawAt rangeAt coinAt choosingAt twoFrom twoAt redraw notAt le32 le64 zeros trailerOf formulaOf recordAt kindNo graphOf reachesBelow reaches headRows rowsOf recordRows cycleRows rootRows bodyRows checks verdict round reached stepped turnOf runFrom fromRoot searchOf tableSays invertAt valueAt mulValue inverseAt consistentAt hindersOne worth eachBelow settle wantedUpTo wanted firstOf givenUpTo startFrom startOf essential sides wayAt alongWay stepFrom lentRows onGraph answer
 without-words = refl
 
 shift-value : firstIn (answer shiftBy64 timesZeroFile timesZeroWords 2 (ones 5)) ≡ 0
-unfolding trailingZeros inverseOf lifts first drawAt rangeAt coinAt choosingAt twoFrom twoAt untilNot notAt le32 le64 zeros trailerOf formulaOf recordAt kindNo graphOf reachesBelow reaches headRows rowsOf recordRows cycleRows rootRows bodyRows checks verdict round reached stepped turnOf runFrom fromRoot searchOf tableSays invertAt valueAt mulValue inverseAt consistentAt hindersOne worth eachBelow settle wantedUpTo wanted firstOf givenUpTo startFrom startOf essential sides wayAt alongWay stepFrom lentRows onGraph answer
+unfolding trailingZeros inverseOf lifts first drawAt rangeAt coinAt choosingAt twoFrom twoAt redraw notAt le32 le64 zeros trailerOf formulaOf recordAt kindNo graphOf reachesBelow reaches headRows rowsOf recordRows cycleRows rootRows bodyRows checks verdict round reached stepped turnOf runFrom fromRoot searchOf tableSays invertAt valueAt mulValue inverseAt consistentAt hindersOne worth eachBelow settle wantedUpTo wanted firstOf givenUpTo startFrom startOf essential sides wayAt alongWay stepFrom lentRows onGraph answer
 shift-value = refl
 
 zero-value : firstIn (answer one timesZeroFile timesZeroWords 2 (ones 5)) ≡ 9
-unfolding first drawAt rangeAt coinAt choosingAt twoFrom twoAt untilNot notAt le32 le64 zeros trailerOf formulaOf recordAt kindNo graphOf reachesBelow reaches headRows rowsOf recordRows cycleRows rootRows bodyRows checks verdict round reached stepped turnOf runFrom fromRoot searchOf tableSays invertAt valueAt mulValue inverseAt consistentAt hindersOne worth eachBelow settle wantedUpTo wanted firstOf givenUpTo startFrom startOf essential sides wayAt alongWay stepFrom lentRows onGraph answer
+unfolding first drawAt rangeAt coinAt choosingAt twoFrom twoAt redraw notAt le32 le64 zeros trailerOf formulaOf recordAt kindNo graphOf reachesBelow reaches headRows rowsOf recordRows cycleRows rootRows bodyRows checks verdict round reached stepped turnOf runFrom fromRoot searchOf tableSays invertAt valueAt mulValue inverseAt consistentAt hindersOne worth eachBelow settle wantedUpTo wanted firstOf givenUpTo startFrom startOf essential sides wayAt alongWay stepFrom lentRows onGraph answer
 zero-value = refl
 
 quotient-words : wordsIn (answer one quotientFile cases.zeros 2 (ones 5)) ≡ 7
@@ -156,15 +156,15 @@ not-shift-by-64 h =
 
 -- the other three, each by a call that a permitted program answers so
 start-answer : answer one quotientFile cases.zeros 0 (ones 5) ≡ ended record { end = spent; rounds = 0; lost = 0; steps = 0; words = 3; vals = quotientRound .before }
-unfolding first drawAt rangeAt coinAt choosingAt twoFrom twoAt untilNot notAt le32 le64 zeros trailerOf formulaOf recordAt kindNo graphOf reachesBelow reaches headRows rowsOf recordRows cycleRows rootRows bodyRows checks verdict round reached stepped turnOf runFrom fromRoot searchOf tableSays invertAt valueAt mulValue inverseAt consistentAt hindersOne worth eachBelow settle wantedUpTo wanted firstOf givenUpTo startFrom startOf essential sides wayAt alongWay stepFrom lentRows onGraph answer
+unfolding first drawAt rangeAt coinAt choosingAt twoFrom twoAt redraw notAt le32 le64 zeros trailerOf formulaOf recordAt kindNo graphOf reachesBelow reaches headRows rowsOf recordRows cycleRows rootRows bodyRows checks verdict round reached stepped turnOf runFrom fromRoot searchOf tableSays invertAt valueAt mulValue inverseAt consistentAt hindersOne worth eachBelow settle wantedUpTo wanted firstOf givenUpTo startFrom startOf essential sides wayAt alongWay stepFrom lentRows onGraph answer
 start-answer = refl
 
 few-answer : answer one pairFile (0 ∷ 0 ∷ 5 ∷ 0 ∷ 0 ∷ 0 ∷ []) 8 (ones 8) ≡ refused 9 [] (ones 8)
-unfolding first drawAt rangeAt coinAt choosingAt twoFrom twoAt untilNot notAt le32 le64 zeros trailerOf formulaOf recordAt kindNo graphOf reachesBelow reaches headRows rowsOf recordRows cycleRows rootRows bodyRows checks verdict round reached stepped turnOf runFrom fromRoot searchOf tableSays invertAt valueAt mulValue inverseAt consistentAt hindersOne worth eachBelow settle wantedUpTo wanted firstOf givenUpTo startFrom startOf essential sides wayAt alongWay stepFrom lentRows onGraph answer
+unfolding first drawAt rangeAt coinAt choosingAt twoFrom twoAt redraw notAt le32 le64 zeros trailerOf formulaOf recordAt kindNo graphOf reachesBelow reaches headRows rowsOf recordRows cycleRows rootRows bodyRows checks verdict round reached stepped turnOf runFrom fromRoot searchOf tableSays invertAt valueAt mulValue inverseAt consistentAt hindersOne worth eachBelow settle wantedUpTo wanted firstOf givenUpTo startFrom startOf essential sides wayAt alongWay stepFrom lentRows onGraph answer
 few-answer = refl
 
 short-answer : answer one pairFile pairWords 3 (ones 8) ≡ ended record { end = spent; rounds = 0; lost = 0; steps = 3; words = 10; vals = pairFirst .before }
-unfolding first drawAt rangeAt coinAt choosingAt twoFrom twoAt untilNot notAt le32 le64 zeros trailerOf formulaOf recordAt kindNo graphOf reachesBelow reaches headRows rowsOf recordRows cycleRows rootRows bodyRows checks verdict round reached stepped turnOf runFrom fromRoot searchOf tableSays invertAt valueAt mulValue inverseAt consistentAt hindersOne worth eachBelow settle wantedUpTo wanted firstOf givenUpTo startFrom startOf essential sides wayAt alongWay stepFrom lentRows onGraph answer
+unfolding first drawAt rangeAt coinAt choosingAt twoFrom twoAt redraw notAt le32 le64 zeros trailerOf formulaOf recordAt kindNo graphOf reachesBelow reaches headRows rowsOf recordRows cycleRows rootRows bodyRows checks verdict round reached stepped turnOf runFrom fromRoot searchOf tableSays invertAt valueAt mulValue inverseAt consistentAt hindersOne worth eachBelow settle wantedUpTo wanted firstOf givenUpTo startFrom startOf essential sides wayAt alongWay stepFrom lentRows onGraph answer
 short-answer = refl
 
 module _ (p : Program) (permitted : Permitted p) where

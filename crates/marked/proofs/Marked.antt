@@ -4,7 +4,7 @@ use lib.Count.{trailingZeros}
 use Rattle.laws.specs.Newton.{lifts}
 use Rattle.laws.specs.Rows.{first}
 use Rattle.bitvec.specs.Inverse.{inverseOf}
-use Rattle.words.specs.Words.{drawAt, rangeAt, coinAt, untilNot, notAt, choosingAt}
+use Rattle.words.specs.Words.{drawAt, rangeAt, coinAt, redraw, notAt, choosingAt}
 use Rattle.symbols.specs.Reaching.{reachesBelow, reaches}
 use Rattle.formula.specs.File.{le32, le64, zeros, trailerOf, formulaOf, recordAt}
 use Rattle.formula.specs.Graph.{kindNo, graphOf}
@@ -21,5 +21,5 @@ use Rattle.solve.specs.Solve.{lentRows, onGraph, answer}
 use Rattle.marked.specs.Cases.{ask, asked, replied, table}
 
 pub marked : asked table ≡ replied table
-unfolding table ask trailingZeros lifts first inverseOf drawAt rangeAt coinAt untilNot notAt choosingAt tableSays mulValue divisorOf inverseAt consistentAt inverseAnswer consistentAnswer le32 le64 zeros trailerOf formulaOf recordAt kindNo graphOf reachesBelow reaches headRows rowsOf recordRows cycleRows rootRows bodyRows checks verdict round reached stepped turnOf runFrom fromRoot searchOf invertAt valueAt hindersOne worth eachBelow settle wantedUpTo wanted firstOf givenUpTo startFrom startOf essential sides wayAt alongWay stepFrom lentRows onGraph answer
+unfolding table ask trailingZeros lifts first inverseOf drawAt rangeAt coinAt redraw notAt choosingAt tableSays mulValue divisorOf inverseAt consistentAt inverseAnswer consistentAnswer le32 le64 zeros trailerOf formulaOf recordAt kindNo graphOf reachesBelow reaches headRows rowsOf recordRows cycleRows rootRows bodyRows checks verdict round reached stepped turnOf runFrom fromRoot searchOf invertAt valueAt hindersOne worth eachBelow settle wantedUpTo wanted firstOf givenUpTo startFrom startOf essential sides wayAt alongWay stepFrom lentRows onGraph answer
 marked = refl

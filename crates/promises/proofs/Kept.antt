@@ -13,6 +13,7 @@ use Rattle.bitvec.specs.Inverse.{inverseOf}
 use Rattle.words.specs.Words.{drawAt, rangeAt, notAt, twoAt, mapDraw}
 use Rattle.words.specs.declared.Draw.the-variants.{Word, Dry}
 use Rattle.words.proofs.Draws.{draw-forward, draw-small, draw-longer, range-forward, range-within, range-longer, not-forward, not-small, not-longer, two-forward, two-small, two-longer, made}
+use Rattle.words.proofs.Enough.{draw-enough, draw-fewer, range-enough, range-fewer, not-enough, not-fewer, two-enough, two-fewer}
 use Rattle.symbols.specs.Graph.{Value}
 use Rattle.symbols.specs.declared.OperandSide.{OperandSide}
 use Rattle.symbols.specs.declared.OperandSide.the-variants.{Lhs, Rhs}
@@ -21,7 +22,6 @@ use Rattle.symbols.specs.declared.BVOperator.the-variants.{Add, Sub, Mul, Divu,
 use Rattle.rules.specs.One.{noWord, mulValue, divisorOf, inverseAt, mapPair, mulConsistent, consistentAt}
 use Rattle.promises.specs.Keeps.{Rule, Keeps}
 use Rattle.promises.proofs.Splits.{never, is-value, is-place, made-two}
-use Rattle.promises.proofs.Exact.{draw-enough, draw-fewer, range-enough, range-fewer, not-enough, not-fewer, two-enough, two-fewer}
 
 -- a value that needs no word, and none
 none-keeps : (x : Value) → x < 2 ^ 64 → Keeps (λ ws n. noWord x n)

@@ -1,6 +1,5 @@
 pub mod Splits
 pub mod Gives
-pub mod Exact
 pub mod Kept
 pub mod Free
 pub mod Choice

@@ -8,14 +8,15 @@ use native.Mathlib.Nat.{mod-lt}
 use native.Mathlib.Omega.{arith}
 use lib.ListN.{length, getD, length-append, List·getD-append}
 use lib.Dec.{ltb, eqb}
-use borrow.Author.Tests.{ltb-true, ltb-false, lt-ltb, eqb-true, eqb-false, eq-eqb}
+use borrow.Author.Tests.{ltb-true, ltb-false, lt-ltb, le-ltb, eqb-true, eqb-false, eq-eqb}
 use Rattle.laws.specs.Pick.{pick}
 use Rattle.words.specs.declared.WordSource.{WordSource}
 use Rattle.words.specs.declared.Draw.{Draw}
 use Rattle.words.specs.declared.Draw.the-variants.{Word, Dry}
 use Rattle.words.specs.declared.Toss.the-variants as toss
 use Rattle.words.specs.declared.Pair.the-variants as pair
-use Rattle.words.specs.Words.{Words, Place, from, drawAt, mapDraw, inRange, rangeAt, tossed, coinOf, coinAt, chosenOf, choosingAt, twoFrom, twoAt, untilNot, notAt}
+use Rattle.words.specs.Words.{Words, Place, from, drawAt, mapDraw, evenAt, inRange, rangeAt, tossed, coinOf, coinAt, chosenOf, choosingAt, twoFrom, twoAt, notAt}
+use Rattle.words.proofs.Redraw.{redraw-is, redraw-longer}
 
 -- every word of a lent list is one of 64 bits
 abbrev pub Small : Words → Type 0
@@ -60,36 +61,44 @@ said f (Word w q) b s e = (w, cc, cc)
 said f Dry b s e = let z : _≡_ {A = ℕ} 0 1 = cc in absurd (omega arith)
 
 -- a range
-module _ (ws : Words) (n a b v : ℕ) (s : WordSource) where
-  range-by : (c : Bool) → ltb b a ≡ c → pick c Dry (mapDraw (inRange a b) (drawAt ws n)) ≡ Word v s
-      → (a ≤ b) × ((w : ℕ) × (drawAt ws n ≡ Word w s) × (v ≡ inRange a b w))
-  range-by true t e = let z : _≡_ {A = ℕ} 0 1 = cc in absurd (omega arith)
-  range-by false t e = (ltb-false b a t, made (inRange a b) (drawAt ws n) v s e)
-
-  pub range-is : rangeAt ws n a b ≡ Word v s → (a ≤ b) × ((w : ℕ) × (drawAt ws n ≡ Word w s) × (v ≡ inRange a b w))
+module _ (ws : Words) (n a b : ℕ) where
+  pub range-of : a ≤ b → rangeAt ws n a b ≡ mapDraw (inRange a b) (evenAt ws n (b - a + 1))
   unfolding rangeAt
-  range-is e = range-by (ltb b a) refl e
+  range-of h = rw (le-ltb b a h)
 
+  module _ (v : ℕ) (s : WordSource) where
+    range-by : (c : Bool) → ltb b a ≡ c → pick c Dry (mapDraw (inRange a b) (evenAt ws n (b - a + 1))) ≡ Word v s
+        → (a ≤ b) × ((w : ℕ) × (evenAt ws n (b - a + 1) ≡ Word w s) × (v ≡ inRange a b w))
+    range-by true t e = let z : _≡_ {A = ℕ} 0 1 = cc in absurd (omega arith)
+    range-by false t e = (ltb-false b a t, made (inRange a b) (evenAt ws n (b - a + 1)) v s e)
+
+    pub range-is : rangeAt ws n a b ≡ Word v s → (a ≤ b) × ((w : ℕ) × (evenAt ws n (b - a + 1) ≡ Word w s) × (v ≡ inRange a b w))
+    unfolding rangeAt
+    range-is e = range-by (ltb b a) refl e
+
+    -- the range's answer on a list where its word is found too
+    pub range-as : (us : Words) → rangeAt ws n a b ≡ Word v s → ((w : ℕ) → evenAt ws n (b - a + 1) ≡ Word w s → evenAt us n (b - a + 1) ≡ Word w s)
+        → rangeAt us n a b ≡ Word v s
+    unfolding rangeAt
+    range-as us e f = let h = range-is e in rw (le-ltb b a (h .0), f (h .1 .0) (h .1 .1)) (ap (λ (x : ℕ). Word x s) (sym (h .1 .2)))
+
+module _ (ws : Words) (n a b v : ℕ) (s : WordSource) where
+  -- one word or more
   pub range-forward : rangeAt ws n a b ≡ Word v s → Forward ws n (s .at)
-  range-forward e = let h = range-is e in draw-forward ws n (h .1 .0) s (h .1 .1)
+  range-forward e = let r = range-is ws n a b v s e in let h = redraw-is _ ws (r .1 .0) s n .0 (r .1 .1) in record { moved = h .moved; within = h .within }
 
   in-range : (w : ℕ) (c : Bool) → a ≤ b → b < 2 ^ 64 → w < 2 ^ 64 → eqb (b - a) 0xffff_ffff_ffff_ffff ≡ c → pick c w (a + w % (b - a + 1)) ≡ v → (a ≤ v) × (v ≤ b)
   in-range w true l h k t e = let q = eqb-true (b - a) 0xffff_ffff_ffff_ffff t in (omega arith, omega arith)
   in-range w false l h k t e = let m = mod-lt w {m = b - a + 1} (omega arith) in (omega arith, omega arith)
 
   pub range-within : b < 2 ^ 64 → Small ws → rangeAt ws n a b ≡ Word v s → (a ≤ v) × (v ≤ b)
-  range-within h k e = let r = range-is e in in-range (r .1 .0) (eqb (b - a) 0xffff_ffff_ffff_ffff) (r .0) h (draw-small ws n (r .1 .0) s k (r .1 .1)) refl (sym (r .1 .2))
+  range-within h k e =
+      let r = range-is ws n a b v s e in
+      let f = redraw-is _ ws (r .1 .0) s n .0 (r .1 .1) in
+      in-range (r .1 .0) (eqb (b - a) 0xffff_ffff_ffff_ffff) (r .0) h (omega (arith, k (s .at - 1), f .last)) refl (sym (r .1 .2))
 
   pub range-longer : (us : Words) → rangeAt ws n a b ≡ Word v s → rangeAt (ws ++ us) n a b ≡ Word v s
-  unfolding rangeAt
-  range-longer us e =
-      let h = range-is e in
-      let f : ltb b a ≡ false = not-below (ltb b a) refl (h .0) in
-      rw (f, draw-longer ws n (h .1 .0) s us (h .1 .1)) (ap (λ (x : ℕ). Word x s) (sym (h .1 .2)))
-    where
-      not-below : (c : Bool) → ltb b a ≡ c → a ≤ b → ltb b a ≡ false
-      not-below true t l = let z = ltb-true b a t in absurd (omega arith)
-      not-below false t l = t
+  range-longer us e = range-as ws n a b v s (ws ++ us) e (λ w d. redraw-longer _ ws n w s d us)
 
 -- a coin and the choosing word
 module _ (ws : Words) (n : ℕ) (b : Bool) (s : WordSource) where
@@ -117,44 +126,11 @@ pub record Until (ws : Words) (n s w : ℕ) (q : WordSource) : Type 0 where
   pub other : w ≡ s → ⊥
 
 module _ (ws : Words) (s w : ℕ) (q : WordSource) where
-  until-is : (k n : ℕ) → k + n ≤ length ws → untilNot k ws n s ≡ Word w q → Until ws n s w q
-  unfolding untilNot
-  until-is zero n l e = let z : _≡_ {A = ℕ} 0 1 = cc in absurd (omega arith)
-  until-is (suc k) n l e = go (until-is k (n + 1) (omega arith)) (eqb (getD ws n 0) s) refl e
-    where
-      go : (untilNot k ws (n + 1) s ≡ Word w q → Until ws (n + 1) s w q) → (c : Bool) → eqb (getD ws n 0) s ≡ c → pick c (untilNot k ws (n + 1) s) (Word (getD ws n 0) (from (n + 1))) ≡ Word w q → Until ws n s w q
-      go rest true t f = let r = rest f in record { moved = let m = r .moved in omega arith; within = r .within; last = r .last; other = r .other }
-      go rest false t f =
-          let a : from (n + 1) ≡ q = cc in
-          let m : n + 1 ≡ q .at = ap (λ (x : WordSource). x .at) a in
-          let p : q .at - 1 ≡ n = omega arith in
-          let v : getD ws n 0 ≡ w = cc in
-          record { moved = omega arith; within = omega arith; last = rw (p) (sym v); other = λ y. eqb-false (getD ws n 0) s t (v ∙ y) }
-
-  until-longer : (us : Words) (j k n : ℕ) → k + n ≤ length ws → untilNot k ws n s ≡ Word w q → untilNot (k + j) (ws ++ us) n s ≡ Word w q
-  unfolding untilNot
-  until-longer us j zero n l e = let z : _≡_ {A = ℕ} 0 1 = cc in absurd (omega arith)
-  until-longer us j (suc k) n l e =
-      let g : getD (ws ++ us) n 0 ≡ getD ws n 0 = List·getD-append ws us 0 n (omega arith) in
-      let m : suc k + j ≡ suc (k + j) = omega arith in
-      rw (m, g) (go (until-longer us j k (n + 1) (omega arith)) (eqb (getD ws n 0) s) e)
-    where
-      go : (untilNot k ws (n + 1) s ≡ Word w q → untilNot (k + j) (ws ++ us) (n + 1) s ≡ Word w q) → (c : Bool) → pick c (untilNot k ws (n + 1) s) (Word (getD ws n 0) (from (n + 1))) ≡ Word w q
-          → pick c (untilNot (k + j) (ws ++ us) (n + 1) s) (Word (getD ws n 0) (from (n + 1))) ≡ Word w q
-      go rest true f = rest f
-      go rest false f = f
-
-  past : (n : ℕ) → untilNot (length ws - n) ws n s ≡ Word w q → n ≤ length ws
-  unfolding untilNot
-  past n e = go (ltb (length ws) n) refl
-    where
-      go : (c : Bool) → ltb (length ws) n ≡ c → n ≤ length ws
-      go true t = let h = ltb-true (length ws) n t in let k : length ws - n ≡ 0 = omega arith in let f = rw k at e in let z : _≡_ {A = ℕ} 0 1 = cc in absurd (omega arith)
-      go false t = ltb-false (length ws) n t
-
   pub not-is : (n : ℕ) → notAt ws n s ≡ Word w q → Until ws n s w q
   unfolding notAt
-  not-is n e = let h = past n e in until-is (length ws - n) n (omega arith) e
+  not-is n e =
+      let h = redraw-is (eqb s) ws w q n .0 e in
+      record { moved = h .moved; within = h .within; last = h .last; other = λ y. eqb-false s w (h .taken) (sym y) }
 
   pub not-forward : (n : ℕ) → notAt ws n s ≡ Word w q → Forward ws n (q .at)
   not-forward n e = let h = not-is n e in record { moved = h .moved; within = h .within }
@@ -164,10 +140,7 @@ module _ (ws : Words) (s w : ℕ) (q : WordSource) where
 
   pub not-longer : (n : ℕ) (us : Words) → notAt ws n s ≡ Word w q → notAt (ws ++ us) n s ≡ Word w q
   unfolding notAt
-  not-longer n us e =
-      let h = past n e in
-      let l : length (ws ++ us) - n ≡ length ws - n + length us = omega (arith, length-append ws us) in
-      rw l (until-longer us (length us) (length ws - n) n (omega arith) e)
+  not-longer n us e = redraw-longer (eqb s) ws n w q e us
 
 -- two words
 pub record Two (ws : Words) (n low high : ℕ) (q : WordSource) : Type 0 where

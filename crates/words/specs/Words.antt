@@ -1,8 +1,8 @@
 -- Document 01, "Words and draws": "Words are a lent list of u64, read from the front; a word source that has given a word is a new
--- word source, and a draw answers either the words and the source after them, or Dry." Assumes nothing.
-use Prim.Native.Nat.{ℕ, zero, suc, _+_, _-_, _/_, _%_, _^_}
+-- word source, and a draw answers either the words and the source after them, or Dry." Document 02, Q-5: even draws. Assumes nothing.
+use Prim.Native.Nat.{ℕ, zero, suc, _+_, _-_, _*_, _/_, _%_, _^_}
 use mathlib.Core.List.{List}
-use mathlib.Core.Bool.{Bool, not, _||_}
+use mathlib.Core.Bool.{Bool, not, _&&_, _||_}
 use lib.ListN.{length, getD}
 use lib.Dec.{ltb, leb, eqb}
 use Rattle.laws.specs.Pick.{pick}
@@ -34,13 +34,33 @@ abbrev pub mapDraw : (ℕ → ℕ) → Draw → Draw
 mapDraw f (Word w s) = Word (f w) s
 mapDraw f Dry = Dry
 
--- "Range a..b (both included): one word w; w if the range is everything, else a + w mod (b − a + 1)."
+-- words are passed over while drop says so, and the next one is taken: k words are left to look at
+unfoldable pub redraw : (ℕ → Bool) → ℕ → Words → Place → Draw
+redraw drop zero ws n = Dry
+redraw drop (suc k) ws n = pick (drop (getD ws n 0)) (redraw drop k ws (n + 1)) (Word (getD ws n 0) (from (n + 1)))
+
+abbrev pub redrawAt : (ℕ → Bool) → Words → Place → Draw
+redrawAt drop ws n = redraw drop (length ws - n) ws n
+
+-- "the largest multiple of m that is at most 2^64"
+abbrev pub multiple : ℕ → ℕ
+multiple m = 2 ^ 64 / m * m
+
+-- "For a range of size m below 2^64, a word at or above the largest multiple … is discarded"
+abbrev pub discards : ℕ → ℕ → Bool
+discards m w = ltb m (2 ^ 64) && leb (multiple m) w
+
+-- "and the next one taken"
+abbrev pub evenAt : Words → Place → ℕ → Draw
+evenAt ws n m = redrawAt (discards m) ws n
+
+-- "Range a..b (both included): one word w; w if the range is everything, else a + w mod (b − a + 1).", of the word that is taken
 abbrev pub inRange : ℕ → ℕ → ℕ → ℕ
 inRange a b w = pick (eqb (b - a) 0xffff_ffff_ffff_ffff) w (a + w % (b - a + 1))
 
 -- "12 Dry … or a range a..b with a > b is asked"
 unfoldable pub rangeAt : Words → Place → ℕ → ℕ → Draw
-rangeAt ws n a b = pick (ltb b a) Dry (mapDraw (inRange a b) (drawAt ws n))
+rangeAt ws n a b = pick (ltb b a) Dry (mapDraw (inRange a b) (evenAt ws n (b - a + 1)))
 
 -- what a word that was drawn says
 abbrev pub tossed : (ℕ → Bool) → Draw → Toss
@@ -72,11 +92,6 @@ twoFrom (suc k) ws n =
 unfoldable pub twoAt : Words → Place → Pair
 twoAt ws n = twoFrom ((length ws - n) / 2) ws n
 
--- "words until one ≠ s": k words are left to look at
-unfoldable pub untilNot : ℕ → Words → Place → ℕ → Draw
-untilNot zero ws n s = Dry
-untilNot (suc k) ws n s = pick (eqb (getD ws n 0) s) (untilNot k ws (n + 1) s) (Word (getD ws n 0) (from (n + 1)))
-
--- "one word redrawn while 0" is `notAt ws n 0`
+-- "words until one ≠ s"; "one word redrawn while 0" is `notAt ws n 0`
 unfoldable pub notAt : Words → Place → ℕ → Draw
-notAt ws n s = untilNot (length ws - n) ws n s
+notAt ws n s = redrawAt (eqb s) ws n

@@ -2,7 +2,8 @@
 // source, and a draw answers either the words and the source after them, or Dry". Dry carries no source: the caller still has its
 // own, unmoved.
 ghost use mathlib.Core.Path.{_≡_};
-ghost use Rattle.words.specs.Words.{drawAt, rangeAt, coinAt, choosingAt, twoAt, notAt};
+ghost use Prim.Native.Nat.{_+_, _<_};
+ghost use Rattle.words.specs.Words.{drawAt, multiple, evenAt, rangeAt, coinAt, choosingAt, twoAt, notAt};
 
 pub struct WordSource {
     pub at: usize,
@@ -25,6 +26,14 @@ pub enum Pair {
     Dry,
 }
 
+// The word below the largest multiple of m that is at most 2^64: the last one where m divides 2^64.
+fn last_accepted(m: u64) -> u64
+    requires { ⌜ 0 < m ⌝ }
+    ensures { λ r. ⌜ r + 1 ≡ multiple m ⌝ }
+{
+    0xffff_ffff_ffff_ffff - (0xffff_ffff_ffff_ffff % m + 1) % m
+}
+
 impl WordSource {
     pub fn new() -> Self
         ensures { λ r. ⌜ r .at ≡ 0 ⌝ }
@@ -43,6 +52,27 @@ impl WordSource {
         }
     }
 
+    // The first word that a range of size m accepts; those discarded before it are among its words.
+    fn even(self, words: &[u64], m: u64) -> Draw
+        requires { ⌜ 0 < m ⌝ }
+        ensures { λ r. ⌜ r ≡ evenAt (now (words .entry)) (self .at) m ⌝ }
+    {
+        let last = last_accepted(m);
+        let first = self.at;
+        if words.len() < first {
+            return Draw::Dry;
+        }
+        let mut taken: usize = 0;
+        while taken < words.len() - first {
+            let w = words[first + taken];
+            taken += 1;
+            if w <= last {
+                return Draw::Word(w, WordSource { at: first + taken });
+            }
+        }
+        Draw::Dry
+    }
+
     // a..b, both included
     pub fn range(self, words: &[u64], a: u64, b: u64) -> Draw
         ensures { λ r. ⌜ r ≡ rangeAt (now (words .entry)) (self .at) a b ⌝ }
@@ -50,15 +80,15 @@ impl WordSource {
         if b < a {
             return Draw::Dry;
         }
-        let Draw::Word(w, next) = self.draw(words) else {
+        let most = b - a;
+        if most == 0xffff_ffff_ffff_ffff {
+            return self.draw(words);
+        }
+        let m = most + 1;
+        let Draw::Word(w, next) = self.even(words, m) else {
             return Draw::Dry;
         };
-        let m = b - a;
-        if m == 0xffff_ffff_ffff_ffff {
-            return Draw::Word(w, next);
-        }
-        let size = m + 1;
-        Draw::Word(a + w % size, next)
+        Draw::Word(a + w % m, next)
     }
 
     pub fn coin(self, words: &[u64]) -> Toss

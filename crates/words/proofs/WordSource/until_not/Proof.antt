@@ -6,13 +6,14 @@ use native.Mathlib.Nat.{add-zero}
 use native.Mathlib.Omega.{arith}
 use borrow.Author.Needs.{needs}
 use lib.ListN.{length}
-use Rattle.words.specs.Words.{untilNot, notAt}
-use Rattle.words.proofs.Laws.{until-past, until-return, until-again, until-over}
+use lib.Dec.{eqb}
+use Rattle.words.specs.Words.{redrawAt, notAt}
+use Rattle.words.proofs.Laws.{until-past, until-return, until-again, redraw-over}
 use Rattle.words.proofs.WordSource.until_not.Statement.{statement}
 use Rattle.words.proofs.WordSource.until_not.Tie as tie
 
 abbrev Inv-loop : tie.InvT-loop
-Inv-loop words s first k₀ k = (first + k ≤ length words) × (untilNot (length words - (first + k)) words (first + k) s ≡ untilNot (length words - first) words first s)
+Inv-loop words s first k₀ k = (first + k ≤ length words) × (redrawAt (eqb s) words (first + k) ≡ redrawAt (eqb s) words first)
 
 abbrev μ-loop : tie.MeasureT-loop
 μ-loop words s first k₀ k = length words - first - k
@@ -29,7 +30,7 @@ loop-again c = (omega arith, search (until-again, needs))
 
 returns-3 : tie.Need-returns-3 Inv-loop μ-loop
 unfolding notAt
-returns-3 c = search (until-over, needs)
+returns-3 c = search (redraw-over, needs)
 
 pub until-not-spec : {M : Type 1} → statement M
 until-not-spec =

@@ -8,12 +8,13 @@ use lib.Seq.{getD-take}
 use lib.Dec.{eqb}
 use borrow.Author.Tests.{lt-ltb, le-ltb}
 use Rattle.laws.specs.Pick.{pick}
-use Rattle.words.specs.Words.{Words, Place, from, drawAt, rangeAt, untilNot, notAt, twoFrom, twoAt}
+use Rattle.words.specs.Words.{Words, Place, from, drawAt, rangeAt, notAt, twoFrom, twoAt}
 use Rattle.words.specs.declared.WordSource.{WordSource}
 use Rattle.words.specs.declared.Draw.the-variants.{Word, Dry}
 use Rattle.words.specs.declared.Pair.{Pair}
 use Rattle.words.specs.declared.Pair.the-variants as pair
-use Rattle.words.proofs.Draws.{draw-is, range-is, not-forward, two-forward}
+use Rattle.words.proofs.Redraw.{redraw-enough, redraw-fewer}
+use Rattle.words.proofs.Draws.{draw-is, range-of, range-is, range-as, two-forward}
 
 -- one word
 module _ (ws : Words) (n w : ℕ) (q : WordSource) (e : drawAt ws n ≡ Word w q) (m : ℕ) where
@@ -35,67 +36,20 @@ module _ (ws : Words) (n w : ℕ) (q : WordSource) (e : drawAt ws n ≡ Word w q
 -- a range
 module _ (ws : Words) (n a b v : ℕ) (q : WordSource) (e : rangeAt ws n a b ≡ Word v q) (m : ℕ) where
   pub range-enough : q .at ≤ m → rangeAt (take m ws) n a b ≡ Word v q
-  unfolding rangeAt
-  range-enough l =
-      let h = range-is ws n a b v q e in
-      rw (le-ltb b a (h .0), draw-enough ws n (h .1 .0) q (h .1 .1) m l) (ap (λ (x : ℕ). Word x q) (sym (h .1 .2)))
+  range-enough l = range-as ws n a b v q (take m ws) e (λ w d. redraw-enough _ ws n w q d m l)
 
   pub range-fewer : m < q .at → rangeAt (take m ws) n a b ≡ Dry
-  unfolding rangeAt
-  range-fewer l = let h = range-is ws n a b v q e in rw (le-ltb b a (h .0), draw-fewer ws n (h .1 .0) q (h .1 .1) m l)
+  range-fewer l = let h = range-is ws n a b v q e in rw (range-of (take m ws) n a b (h .0), redraw-fewer _ ws n (h .1 .0) q (h .1 .1) m l)
 
--- words until one is not s: j words are looked at, of those up to m
-module _ (ws : Words) (s w : ℕ) (q : WordSource) (m : ℕ) where
-  after : (n x : ℕ) → Word x (from n) ≡ Word w q → q .at ≡ n
-  after n x e = cc
+-- words until one is not s
+module _ (ws : Words) (s w : ℕ) (q : WordSource) (m : ℕ) (n : Place) (e : notAt ws n s ≡ Word w q) where
+  pub not-enough : q .at ≤ m → notAt (take m ws) n s ≡ Word w q
+  unfolding notAt
+  not-enough l = redraw-enough (eqb s) ws n w q e m l
 
-  dry : {X : Type 0} → Dry ≡ Word w q → X
-  dry e = let z : _≡_ {A = ℕ} 0 1 = cc in absurd (omega arith)
-
-  past : (k n : ℕ) → untilNot k ws n s ≡ Word w q → n < q .at
-  unfolding untilNot
-  past zero n e = dry e
-  past (suc k) n e = go (past k (n + 1)) (eqb (getD ws n 0) s) e
-    where
-      go : (untilNot k ws (n + 1) s ≡ Word w q → n + 1 < q .at) → (c : Bool) → pick c (untilNot k ws (n + 1) s) (Word (getD ws n 0) (from (n + 1))) ≡ Word w q → n < q .at
-      go rest true f = let h = rest f in omega arith
-      go rest false f = omega (arith, after (n + 1) (getD ws n 0) f)
-
-  until-enough : (k n j : ℕ) → q .at ≤ m → q .at ≤ j + n → untilNot k ws n s ≡ Word w q → untilNot j (take m ws) n s ≡ Word w q
-  unfolding untilNot
-  until-enough zero n j l h e = dry e
-  until-enough (suc k) n zero l h e = let p = past (suc k) n e in absurd (omega arith)
-  until-enough (suc k) n (suc j) l h e =
-      let p = past (suc k) n e in
-      let g : getD (take m ws) n 0 ≡ getD ws n 0 = getD-take m ws n 0 (omega arith) in
-      rw g (go (until-enough k (n + 1) j l (omega arith)) (eqb (getD ws n 0) s) e)
-    where
-      go : (untilNot k ws (n + 1) s ≡ Word w q → untilNot j (take m ws) (n + 1) s ≡ Word w q) → (c : Bool) → pick c (untilNot k ws (n + 1) s) (Word (getD ws n 0) (from (n + 1))) ≡ Word w q
-          → pick c (untilNot j (take m ws) (n + 1) s) (Word (getD ws n 0) (from (n + 1))) ≡ Word w q
-      go rest true f = rest f
-      go rest false f = f
-
-  until-fewer : (k n j : ℕ) → m < q .at → j ≤ m - n → untilNot k ws n s ≡ Word w q → untilNot j (take m ws) n s ≡ Dry
-  unfolding untilNot
-  until-fewer zero n j l h e = dry e
-  until-fewer (suc k) n zero l h e = refl
-  until-fewer (suc k) n (suc j) l h e =
-      let g : getD (take m ws) n 0 ≡ getD ws n 0 = getD-take m ws n 0 (omega arith) in
-      rw g (go (until-fewer k (n + 1) j l (omega arith)) (eqb (getD ws n 0) s) e)
-    where
-      go : (untilNot k ws (n + 1) s ≡ Word w q → untilNot j (take m ws) (n + 1) s ≡ Dry) → (c : Bool) → pick c (untilNot k ws (n + 1) s) (Word (getD ws n 0) (from (n + 1))) ≡ Word w q
-          → pick c (untilNot j (take m ws) (n + 1) s) (Word (getD ws n 0) (from (n + 1))) ≡ Dry
-      go rest true f = rest f
-      go rest false f = absurd (omega (arith, after (n + 1) (getD ws n 0) f))
-
-  module _ (n : Place) (e : notAt ws n s ≡ Word w q) where
-    pub not-enough : q .at ≤ m → notAt (take m ws) n s ≡ Word w q
-    unfolding notAt
-    not-enough l = let h = not-forward ws s w q n e in until-enough (length ws - n) n (length (take m ws) - n) l (omega (arith, h .within, length-take m ws)) e
-
-    pub not-fewer : m < q .at → notAt (take m ws) n s ≡ Dry
-    unfolding notAt
-    not-fewer l = until-fewer (length ws - n) n (length (take m ws) - n) l (omega (arith, length-take m ws)) e
+  pub not-fewer : m < q .at → notAt (take m ws) n s ≡ Dry
+  unfolding notAt
+  not-fewer l = redraw-fewer (eqb s) ws n w q e m l
 
 -- two words: j pairs are looked at, of the words up to m
 module _ (ws : Words) (low high : ℕ) (q : WordSource) (m : ℕ) where
