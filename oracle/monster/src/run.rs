@@ -25,6 +25,10 @@ pub struct Run {
     pub words: usize,
     /// Words of a value that the end of the list left unfinished.
     pub unfinished: usize,
+    /// The original's line of the range that discarded a word, for each such word.
+    pub discarded: Vec<u32>,
+    /// How many of them belong to a value that was left unfinished.
+    pub discarded_unfinished: usize,
 }
 
 impl Run {
@@ -60,12 +64,15 @@ pub fn run(graph: &Graph, words: &[u64], budget: u32) -> Run {
         Err(Stop::Dry) => End::Dry,
         Err(Stop::Panicked(place)) => End::Panicked(place),
     };
+    let (discarded, discarded_unfinished) = words::discarded();
     Run {
         end,
         states,
         choices,
         words: words::finished(),
         unfinished: words::unfinished(),
+        discarded,
+        discarded_unfinished,
     }
 }
 

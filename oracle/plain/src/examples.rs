@@ -4,7 +4,7 @@
 use crate::cycles::downward;
 use crate::file::{encode, graph, Graph, Node};
 use crate::limits::{every_kind, with_field, Random};
-use crate::operators::Operator::{Add, BitwiseAnd, Equals, Mul, Remu};
+use crate::operators::Operator::{Add, BitwiseAnd, Equals, Mul, Remu, Sltu};
 use crate::program::{lists, prints};
 use crate::M;
 
@@ -289,6 +289,8 @@ fn ends() -> Vec<Example> {
         example("spent-long", &long_chain(), &random_words(1_500, 7)),
         example("dry-at-value", &sound, &[0; 3]),
         example("dry-in-value", &not_five(), &[5, 0, 0, 9, 5, 5]),
+        example("discarded", &below_five(), &[9, 0, M, M, 3, M, 7, 0]),
+        example("dry-in-range", &below_five(), &[9, 0, 3, M, M]),
         example("dry-at-choosing-word", &sound, &[0; 6]),
         example("dry-after-coin", &collision(), &collision_words()[..12]),
         example("every-kind", &every_kind(), &random_words(300, 8)),
@@ -352,6 +354,16 @@ fn not_five() -> Graph {
         Node::Unary(2),
     ];
     graph(nodes, 3)
+}
+
+/// x < 5.
+fn below_five() -> Graph {
+    let nodes = vec![
+        Node::Input(5, 0),
+        Node::Constant(5),
+        Node::Binary(Sltu, 0, 1),
+    ];
+    graph(nodes, 2)
 }
 
 /// x · 2 = 1, which has no solution.

@@ -19,16 +19,30 @@ pub fn word(words: &[u64], at: usize) -> Draw<u64> {
 }
 
 /// "Range a..b (both included): one word w; w if the range is everything, else
-/// a + w mod (b − a + 1)." And "12 Dry | … or a range a..b with a > b is asked".
-pub fn range(words: &[u64], at: usize, a: u64, b: u64) -> Draw<u64> {
+/// a + w mod (b − a + 1)." And "12 Dry | … or a range a..b with a > b is asked". And
+/// "For a range of size m below 2^64, a word at or above the largest multiple of m that
+/// is at most 2^64 is discarded and the next one taken."
+pub fn range(words: &[u64], mut at: usize, a: u64, b: u64) -> Draw<u64> {
     if a > b {
         return None;
     }
-    let (w, after) = word(words, at)?;
     if a == 0 && b == M {
-        return Some((w, after));
+        return word(words, at);
     }
-    Some((a + w % (b - a + 1), after))
+    let m = b - a + 1;
+    loop {
+        let (w, after) = word(words, at)?;
+        if u128::from(w) < largest_multiple(m) {
+            return Some((a + w % m, after));
+        }
+        at = after;
+    }
+}
+
+/// "the largest multiple of m that is at most 2^64".
+pub fn largest_multiple(m: u64) -> u128 {
+    let m = u128::from(m);
+    (1 << 64) / m * m
 }
 
 /// "Coin: true when w ≥ 2^63."
@@ -94,9 +108,30 @@ mod tests {
         assert_eq!(range(&[7], 0, 0, M), Some((7, 1)));
         assert_eq!(range(&[7], 0, 10, 14), Some((12, 1)));
         assert_eq!(range(&[7], 0, M, M), Some((M, 1)));
-        assert_eq!(range(&[M], 0, 1, M), Some((1, 1)));
+        assert_eq!(range(&[M - 1], 0, 1, M), Some((M, 1)));
         assert_eq!(range(&[7], 0, 2, 1), None);
         assert_eq!(range(&[7], 1, 1, 2), None);
+    }
+
+    #[test]
+    fn multiples() {
+        assert_eq!(largest_multiple(1), 1 << 64);
+        assert_eq!(largest_multiple(1 << 63), 1 << 64);
+        assert_eq!(largest_multiple(3), u128::from(M));
+        assert_eq!(largest_multiple(10), u128::from(M) - 5);
+        assert_eq!(largest_multiple((1 << 63) + 1), (1 << 63) + 1);
+        assert_eq!(largest_multiple(M), u128::from(M));
+    }
+
+    /// 2^64 is 10 times 1844674407370955161, and 6.
+    #[test]
+    fn discarded_words() {
+        assert_eq!(range(&[M - 6], 0, 0, 9), Some((9, 1)));
+        assert_eq!(range(&[M - 5, 23], 0, 0, 9), Some((3, 2)));
+        assert_eq!(range(&[M, M - 1, M - 5, 23], 0, 5, 14), Some((8, 4)));
+        assert_eq!(range(&[M, M - 5], 0, 0, 9), None);
+        assert_eq!(range(&[M], 0, 0, 7), Some((7, 1)));
+        assert_eq!(range(&[M, M], 0, 1, M), None);
     }
 
     #[test]

@@ -16,10 +16,14 @@ use std::collections::BTreeMap;
 
 /// How many of each row and side, answered and refused.
 const OF_EACH: usize = 3;
+/// And how many more after each number of discarded words.
+const OF_DISCARDED: usize = 1;
+/// So many or more are counted as one.
+const MANY: u64 = 3;
 const SEED: u64 = 7;
 
-/// A row's place, the side, and the answer's number.
-type Class = (usize, usize, u64);
+/// A row's place, the side, the answer's number, and the words that its range discarded.
+type Class = (usize, usize, u64, u64);
 
 pub fn collect(coverage: &mut Coverage) -> Vec<Entry> {
     let chosen = chosen();
@@ -38,12 +42,14 @@ fn chosen() -> Vec<Question> {
     let mut random = Random::new(SEED);
     let mut classes: BTreeMap<Class, (u64, Vec<Question>)> = BTreeMap::new();
     questions::ask(&mut |question| {
-        let (seen, kept) = classes.entry(class(&question)).or_default();
+        let class = class(&question);
+        let most = if class.3 > 0 { OF_DISCARDED } else { OF_EACH };
+        let (seen, kept) = classes.entry(class).or_default();
         *seen += 1;
         let place = random.below(*seen) as usize;
-        if kept.len() < OF_EACH {
+        if kept.len() < most {
             kept.push(question);
-        } else if place < OF_EACH {
+        } else if place < most {
             kept[place] = question;
         }
     });
@@ -51,8 +57,10 @@ fn chosen() -> Vec<Question> {
 }
 
 fn class(question: &Question) -> Class {
-    let [number, _, _] = paper::answer(question);
-    (rows::place(question), question.side as usize, number)
+    let answer = paper::answer(question);
+    let discarded = rows::discarded(question, answer).min(MANY);
+    let (place, side) = (rows::place(question), question.side as usize);
+    (place, side, answer[0], discarded)
 }
 
 fn entry(question: &Question) -> Entry {

@@ -18,13 +18,15 @@ const SEED: u64 = 6;
 
 /// An operator with side, kind of value and ending; or, behind the operators'
 /// numbers, a kind of root with its ending, a place of panics, a refusal with its id, the
-/// width of an input and whether a round is lost for it. Of a run the last number says
+/// width of an input and whether a round is lost for it, or that ranges discarded words
+/// (how many, and how many in a value left unfinished), with the ending. Of a run the last number says
 /// whether its graph is sorted, or narrow.
 pub type Thing = [usize; 5];
 const ROOT: usize = 100;
 const PANIC: usize = 101;
 const REFUSAL: usize = 102;
 const WIDTH: usize = 103;
+const DISCARDED: usize = 104;
 const NARROW: usize = 2;
 
 pub struct Shown {
@@ -81,6 +83,10 @@ pub fn by_run(seen: &Seen) -> Vec<Thing> {
     let root = file::kind(&plan.nodes[plan.root]) as usize;
     let rust = seen.rust.map(|rust| &rust.end);
     things.push([ROOT, root, rust.map_or(end, place), 0, form]);
+    if let Some(run) = seen.rust.filter(|run| !run.discarded.is_empty()) {
+        let counts = [run.discarded.len(), run.discarded_unfinished].map(|count| count.min(2));
+        things.push([DISCARDED, counts[0], counts[1], place(&run.end), form]);
+    }
     if let Some(End::Panicked(place)) = rust {
         let known = place.known().into_iter();
         things.extend(known.map(|known| [PANIC, known as usize, 0, 0, form]));

@@ -47,6 +47,12 @@ impl Drawn<'_> {
         drawn.then(|| (s - t, 1 + self.taken[0] % 4096, t))
     }
 
+    /// Of a consistent Divu Lhs, the row y·t: the others are ranges.
+    fn product(&self) -> bool {
+        let Question { side, t, .. } = *self.question;
+        side == Lhs && !matches!(t, 0 | u64::MAX)
+    }
+
     fn equal(&self) -> bool {
         self.question.s == self.question.t && self.question.side == Rhs
     }
@@ -96,10 +102,10 @@ const DRAWS: [Draw; 15] = [
         d.dry(Consistent, Mul)
     }),
     ("consistent Divu Lhs: redrawn", |d| {
-        d.answered(Consistent, Divu) && d.taken.len() > 1
+        d.answered(Consistent, Divu) && d.product() && d.taken.len() > 1
     }),
     ("consistent Divu Lhs: dry after words", |d| {
-        d.dry(Consistent, Divu)
+        d.dry(Consistent, Divu) && d.product()
     }),
 ];
 

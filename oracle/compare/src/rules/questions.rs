@@ -1,6 +1,9 @@
 //! The questions: a grid of corner numbers, then random pairs.
 
-use super::question::{Question, Rule, Rule::*};
+use super::{
+    question::{Question, Rule, Rule::*, WORDS},
+    rows,
+};
 use crate::numbers::{corners, Random};
 use monster::{
     BVOperator::{self, *},
@@ -10,7 +13,7 @@ use monster::{
 const OPERATORS: [BVOperator; 9] = [Add, Sub, Mul, Divu, Sltu, Remu, Not, Equals, BitwiseAnd];
 const SIDES: [OperandSide; 2] = [Lhs, Rhs];
 const RULES: [Rule; 4] = [Table, Inverse, Consistent, Unary];
-const RANDOM_PAIRS: u32 = 80_000;
+const RANDOM_PAIRS: u32 = 85_000;
 const SEED: u64 = 2;
 
 pub fn ask(answer: &mut impl FnMut(Question)) {
@@ -49,8 +52,7 @@ fn ask_pair(s: u64, t: u64, random: &mut Random, answer: &mut impl FnMut(Questio
         for side in SIDES {
             for _ in 0..1 + u8::from(matches!(rule, Inverse | Consistent)) {
                 let (length, at) = room(random);
-                let lent = std::array::from_fn(|_| word(s, t, random));
-                answer(Question {
+                let mut question = Question {
                     rule,
                     op,
                     side,
@@ -58,8 +60,10 @@ fn ask_pair(s: u64, t: u64, random: &mut Random, answer: &mut impl FnMut(Questio
                     t,
                     at,
                     length,
-                    lent,
-                });
+                    lent: [0; WORDS],
+                };
+                question.lent = words(&question, random);
+                answer(question);
             }
         }
     }
@@ -74,6 +78,25 @@ fn room(random: &mut Random) -> (usize, usize) {
         1 => (at + 1, at),
         2 => (at, at + random.below(2) as usize),
         _ => (at + 2 + random.below(4) as usize, at),
+    }
+}
+
+/// Of a range most words are near the first one that it discards.
+fn words(question: &Question, random: &mut Random) -> [u64; WORDS] {
+    let discarded = rows::first_discarded(question);
+    std::array::from_fn(|_| match discarded {
+        Some(first) if random.below(3) > 0 => near_discarded(first, random),
+        _ => word(question.s, question.t, random),
+    })
+}
+
+/// The last one that is taken, the first and the last that are discarded, or one of them.
+fn near_discarded(first: u64, random: &mut Random) -> u64 {
+    match random.below(4) {
+        0 => first - 1,
+        1 => first,
+        2 => u64::MAX,
+        _ => first + random.below(first.wrapping_neg()),
     }
 }
 

@@ -19,6 +19,10 @@ enum Ends {
     Value,
     /// A value that takes words, so that they can also run out.
     Drawn,
+    /// A value from this range, which can discard words.
+    Range(fn(u64, u64) -> (u64, u64)),
+    /// A value from a range whose size divides 2^64: it never discards one.
+    Even,
     /// This refusal.
     Refused(u64),
 }
@@ -83,27 +87,27 @@ const ROWS: &[Row] = &[
     (Inverse, Mul, &BOTH, "table says no", |s, t| s.trailing_zeros() > t.trailing_zeros(), Refused(11)),
     (Inverse, Mul, &BOTH, "c = 0", |s, _| s % 2 == 1, Drawn),
     (Inverse, Mul, &BOTH, "c > 0", ANY, Drawn),
-    (Inverse, Divu, &LHS, "s = 0, t = M", |s, t| s == 0 && t == M, Drawn),
+    (Inverse, Divu, &LHS, "s = 0, t = M", |s, t| s == 0 && t == M, Even),
     (Inverse, Divu, &LHS, "table says no", |s, t| s == 0 || t > M / s, Refused(11)),
     (Inverse, Divu, &LHS, "t = M, s = 1", |s, t| t == M && s == 1, Value),
-    (Inverse, Divu, &LHS, "t*s..t*s+s-1", |s, t| t * s <= M - (s - 1), Drawn),
-    (Inverse, Divu, &LHS, "t*s..M", ANY, Drawn),
-    (Inverse, Divu, &RHS, "t = s = M", |s, t| t == M && s == M, Drawn),
+    (Inverse, Divu, &LHS, "t*s..t*s+s-1", |s, t| t * s <= M - (s - 1), Range(|s, t| (t * s, t * s + (s - 1)))),
+    (Inverse, Divu, &LHS, "t*s..M", ANY, Range(|s, t| (t * s, M))),
+    (Inverse, Divu, &RHS, "t = s = M", |s, t| t == M && s == M, Even),
     (Inverse, Divu, &RHS, "t = M", |_, t| t == M, Value),
     (Inverse, Divu, &RHS, "table says no", |s, t| if t == 0 { s == M } else { s < t }, Refused(11)),
     (Inverse, Divu, &RHS, "s/t, t = 0", |_, t| t == 0, Value),
     (Inverse, Divu, &RHS, "s/t, not (a)", |s, t| s / (s / t) == t, Value),
     (Inverse, Divu, &RHS, "s/t, kind (a)", ANY, Value),
-    (Inverse, Sltu, &LHS, "t = 0: s..M", |_, t| t == 0, Drawn),
+    (Inverse, Sltu, &LHS, "t = 0: s..M", |_, t| t == 0, Range(|s, _| (s, M))),
     (Inverse, Sltu, &LHS, "table says no", |s, _| s == 0, Refused(11)),
-    (Inverse, Sltu, &LHS, "0..s-1", ANY, Drawn),
-    (Inverse, Sltu, &RHS, "t = 0: 0..s", |_, t| t == 0, Drawn),
+    (Inverse, Sltu, &LHS, "0..s-1", ANY, Range(|s, _| (0, s - 1))),
+    (Inverse, Sltu, &RHS, "t = 0: 0..s", |_, t| t == 0, Range(|s, _| (0, s))),
     (Inverse, Sltu, &RHS, "table says no", |s, _| s == M, Refused(11)),
-    (Inverse, Sltu, &RHS, "s+1..M", ANY, Drawn),
+    (Inverse, Sltu, &RHS, "s+1..M", ANY, Range(|s, _| (s + 1, M))),
     (Inverse, Remu, &LHS, "table says no", |s, t| s <= t, Refused(11)),
     (Inverse, Remu, &LHS, "empty range", |s, t| (M - t) / s == 0, Value),
-    (Inverse, Remu, &LHS, "y*s + t", ANY, Drawn),
-    (Inverse, Remu, &RHS, "s = t", |s, t| s == t, Drawn),
+    (Inverse, Remu, &LHS, "y*s + t", ANY, Range(|s, t| (1, (M - t) / s))),
+    (Inverse, Remu, &RHS, "s = t", |s, t| s == t, Range(|_, t| (t, M))),
     (Inverse, Remu, &RHS, "table says no", |s, t| s < t || s - t <= t, Refused(11)),
     (Inverse, Remu, &RHS, "divisor draw", ANY, Drawn),
     (Inverse, Not, &BOTH, "binary rule of Not", ANY, Refused(10)),
@@ -115,20 +119,20 @@ const ROWS: &[Row] = &[
     (Consistent, Sub, &BOTH, "word", ANY, Drawn),
     (Consistent, Mul, &BOTH, "t = 0", |_, t| t == 0, Value),
     (Consistent, Mul, &BOTH, "two words", ANY, Drawn),
-    (Consistent, Divu, &LHS, "t = 0: 0..M-1", |_, t| t == 0, Drawn),
-    (Consistent, Divu, &LHS, "t = M: 0..M-1", |_, t| t == M, Drawn),
+    (Consistent, Divu, &LHS, "t = 0: 0..M-1", |_, t| t == 0, Range(|_, _| (0, M - 1))),
+    (Consistent, Divu, &LHS, "t = M: 0..M-1", |_, t| t == M, Range(|_, _| (0, M - 1))),
     (Consistent, Divu, &LHS, "y*t", ANY, Drawn),
-    (Consistent, Divu, &RHS, "t = M: 0..1", |_, t| t == M, Drawn),
-    (Consistent, Divu, &RHS, "t = 0: 1..M", |_, t| t == 0, Drawn),
-    (Consistent, Divu, &RHS, "0..M/t", ANY, Drawn),
-    (Consistent, Sltu, &LHS, "t = 0: 0..M", |_, t| t == 0, Drawn),
-    (Consistent, Sltu, &LHS, "0..M-1", ANY, Drawn),
-    (Consistent, Sltu, &RHS, "t = 0: 0..M", |_, t| t == 0, Drawn),
-    (Consistent, Sltu, &RHS, "1..M-1", ANY, Drawn),
+    (Consistent, Divu, &RHS, "t = M: 0..1", |_, t| t == M, Even),
+    (Consistent, Divu, &RHS, "t = 0: 1..M", |_, t| t == 0, Range(|_, _| (1, M))),
+    (Consistent, Divu, &RHS, "0..M/t", ANY, Range(|_, t| (0, M / t))),
+    (Consistent, Sltu, &LHS, "t = 0: 0..M", |_, t| t == 0, Even),
+    (Consistent, Sltu, &LHS, "0..M-1", ANY, Range(|_, _| (0, M - 1))),
+    (Consistent, Sltu, &RHS, "t = 0: 0..M", |_, t| t == 0, Even),
+    (Consistent, Sltu, &RHS, "1..M-1", ANY, Range(|_, _| (1, M - 1))),
     (Consistent, Remu, &LHS, "t = M: M", |_, t| t == M, Value),
-    (Consistent, Remu, &LHS, "t..M", ANY, Drawn),
+    (Consistent, Remu, &LHS, "t..M", ANY, Range(|_, t| (t, M))),
     (Consistent, Remu, &RHS, "t = M: 0", |_, t| t == M, Value),
-    (Consistent, Remu, &RHS, "t+1..M", ANY, Drawn),
+    (Consistent, Remu, &RHS, "t+1..M", ANY, Range(|_, t| (t + 1, M))),
     (Consistent, Not, &BOTH, "binary rule of Not", ANY, Refused(10)),
     (Consistent, Equals, &BOTH, "word", ANY, Drawn),
     (Consistent, BitwiseAnd, &BOTH, "word or t", ANY, Drawn),
@@ -149,6 +153,11 @@ const ROWS: &[Row] = &[
 struct Count {
     answered: u64,
     refused: u64,
+    /// Of those answered, the ones after a discarded word, and after several; of those
+    /// refused, the ones after any.
+    after_one: u64,
+    after_more: u64,
+    dry_after: u64,
 }
 
 pub struct Rows(Vec<[Count; 2]>);
@@ -162,9 +171,17 @@ impl Rows {
     pub fn count(&mut self, question: &Question, answer: Answer) {
         let place = place(question);
         let count = &mut self.0[place][question.side as usize];
+        let discarded = discarded(question, answer);
         match fits(&ROWS[place], question, answer) {
-            Some(true) => count.answered += 1,
-            Some(false) => count.refused += 1,
+            Some(true) => {
+                count.answered += 1;
+                count.after_one += u64::from(discarded == 1);
+                count.after_more += u64::from(discarded > 1);
+            }
+            Some(false) => {
+                count.refused += 1;
+                count.dry_after += u64::from(discarded > 0);
+            }
             None => panic!("{answer:?} in the row {}: {question:?}", ROWS[place].3),
         }
     }
@@ -193,6 +210,26 @@ pub fn place(question: &Question) -> usize {
     place.expect("every question has its row")
 }
 
+/// The first word that the range of a question discards, if it is of one that does.
+pub fn first_discarded(question: &Question) -> Option<u64> {
+    let Range(range) = ROWS[place(question)].5 else {
+        return None;
+    };
+    let (first, last) = range(question.s, question.t);
+    let size = u128::from(last - first) + 1;
+    u64::try_from((1 << 64) / size * size).ok()
+}
+
+/// How many words the range of a question discarded: all but the last, or all.
+pub fn discarded(question: &Question, answer: Answer) -> u64 {
+    let at = question.at as u64;
+    match (&ROWS[place(question)].5, answer) {
+        (Range(_) | Even, [0, _, after]) => after - at - 1,
+        (Range(_) | Even, _) => (question.length as u64).saturating_sub(at),
+        _ => 0,
+    }
+}
+
 fn of((rule, op, sides, _, case, _): &Row, question: &Question) -> bool {
     *rule == question.rule
         && *op == question.op
@@ -208,8 +245,8 @@ fn fits((rule, _, _, name, _, ends): &Row, question: &Question, answer: Answer) 
             (name.starts_with("yes") == (yes == 1)).then_some(true)
         }
         (Value, [0, _, after]) => (after == at).then_some(true),
-        (Drawn, [0, _, after]) => (after > at).then_some(true),
-        (Drawn, [12, _, _]) => Some(false),
+        (Drawn | Range(_) | Even, [0, _, after]) => (after > at).then_some(true),
+        (Drawn | Range(_) | Even, [12, _, _]) => Some(false),
         (Refused(number), [refusal, _, _]) => (*number == refusal).then_some(false),
         _ => None,
     }
@@ -223,6 +260,16 @@ fn print(row: &Row, side: OperandSide, count: Count, coverage: &mut Coverage) {
     match ends {
         Value => coverage.line(&name, &[answered], true),
         Drawn => coverage.line(&name, &[answered, refused], true),
+        Range(_) | Even => {
+            coverage.line(&name, &[answered, refused], true);
+            let discarded = [
+                (count.after_one, "after one"),
+                (count.after_more, "after more"),
+                (count.dry_after, "dry after"),
+            ];
+            let name = format!("{name}, discarded words");
+            coverage.line(&name, &discarded, matches!(ends, Range(_)));
+        }
         Refused(_) => coverage.line(&name, &[refused], true),
     }
 }

@@ -1,6 +1,7 @@
 //! Puts a case to all sides, and keeps count.
 
 use super::{
+    discards::Discards,
     odd::Odd,
     ours::{Depth, Ours},
     panics::Panics,
@@ -31,6 +32,7 @@ pub struct Compared {
     narrow: Roots,
     widths: Widths,
     unfinished: u64,
+    discards: Discards,
     left_out: u64,
 }
 
@@ -72,6 +74,7 @@ impl Compared {
             narrow: Roots::new(),
             widths: Widths::default(),
             unfinished: 0,
+            discards: Discards::default(),
             left_out: 0,
         }
     }
@@ -83,6 +86,7 @@ impl Compared {
             self.panics.compare(case, rust, place, paper);
         }
         self.unfinished += u64::from(rust.end == End::Dry && rust.unfinished > 0);
+        self.discards.count(rust);
         self.sides.count(&case.plan, rust);
         self.roots.count(&case.plan, place(&rust.end));
     }
@@ -96,6 +100,7 @@ impl Compared {
         self.narrow.print("narrow", 3, &mut coverage);
         self.widths.print(&mut coverage);
         self.panics.places.print(&mut coverage);
+        self.discards.print(&mut coverage);
         let mut runs = |name: &str, count: u64| coverage.line(name, &[(count, "runs")], true);
         runs("dry within a value that took words", self.unfinished);
         runs("left out, the Rust's propagation explodes", self.left_out);

@@ -4,6 +4,7 @@
 pub mod answers;
 pub mod cells;
 pub mod compared;
+pub mod discards;
 pub mod file;
 pub mod graphs;
 pub mod log;

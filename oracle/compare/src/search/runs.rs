@@ -77,7 +77,7 @@ fn words(start: usize, budget: u32, random: &mut Random) -> Vec<u64> {
         0 => random.below(9) as usize,
         _ => 5 * budget as usize + 8,
     };
-    let style = random.below(6);
+    let style = random.below(7);
     let two = [random.number(), random.number()];
     (0..start + more)
         .map(|_| word(style, two, random))
@@ -85,7 +85,7 @@ fn words(start: usize, budget: u32, random: &mut Random) -> Vec<u64> {
 }
 
 /// Any words, M and small ones, corners, those near the choosing word's bound, one of
-/// two (which brings redraws), or a mixture.
+/// two (which brings redraws), the last of all (which ranges discard), or a mixture.
 fn word(style: u64, two: [u64; 2], random: &mut Random) -> u64 {
     match style {
         0 => random.word(),
@@ -93,11 +93,18 @@ fn word(style: u64, two: [u64; 2], random: &mut Random) -> u64 {
         2 => random.number(),
         3 => choosing(random),
         4 => two[random.below(2) as usize],
+        5 => last(random),
         _ => {
-            let style = random.below(5);
+            let style = random.below(6);
             word(style, two, random)
         }
     }
+}
+
+/// M, or far or near below it, as likely at every distance.
+fn last(random: &mut Random) -> u64 {
+    let distance = random.below(64);
+    u64::MAX - (random.word() >> distance) / 2
 }
 
 fn choosing(random: &mut Random) -> u64 {

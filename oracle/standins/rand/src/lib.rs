@@ -42,11 +42,13 @@ pub fn thread_rng() -> ThreadRng {
 }
 
 pub trait Rng {
+    #[track_caller]
     fn sample(&mut self, range: distributions::Uniform) -> u64;
     fn gen_range(&mut self, range: RangeInclusive<f64>) -> f64;
 }
 
 impl Rng for ThreadRng {
+    #[track_caller]
     fn sample(&mut self, range: distributions::Uniform) -> u64 {
         range.draw()
     }
