@@ -1,6 +1,6 @@
 //! How often each operator, side and kind of value was compared, by ending.
 
-use super::{log::Step, roots::ENDS, trace::Plan};
+use super::{graphs::BINARY, log::Step, roots::ENDS, trace::Plan};
 use crate::coverage::Coverage;
 use monster::{
     BVOperator::{self, *},
@@ -9,7 +9,6 @@ use monster::{
 };
 use plain::{rules::Side, search::How};
 
-const BINARY: [BVOperator; 8] = [Add, Sub, Mul, Divu, Sltu, Remu, Equals, BitwiseAnd];
 const SIDES: [OperandSide; 2] = [Lhs, Rhs];
 const INVERSE: usize = 0;
 const CONSISTENT: usize = 1;

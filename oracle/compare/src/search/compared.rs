@@ -13,6 +13,7 @@ use super::{
     sides::Sides,
     trace::{Case, Outcome, Trace},
     widths::Widths,
+    widths_at_roots::WidthsAtRoots,
 };
 use crate::{
     coverage::Coverage,
@@ -31,6 +32,7 @@ pub struct Compared {
     /// Those of graphs with inputs of fewer than 64 bits, which the Rust is not asked of.
     narrow: Roots,
     widths: Widths,
+    widths_at_roots: WidthsAtRoots,
     unfinished: u64,
     discards: Discards,
     left_out: u64,
@@ -38,9 +40,13 @@ pub struct Compared {
 
 impl Judge for Compared {
     fn judge(&mut self, case: &Rc<Case>, depth: Depth) -> Option<Outcome> {
-        let Ok(paper) = paper::run(case) else {
-            self.judge_odd(Odd::new(case));
-            return None;
+        let paper = match paper::run(case) {
+            Ok(paper) => paper,
+            Err(refusal) => {
+                self.widths_at_roots.count_refused(&case.plan, refusal);
+                self.judge_odd(Odd::new(case));
+                return None;
+            }
         };
         let rust = rust::run(case);
         match &rust {
@@ -49,6 +55,7 @@ impl Judge for Compared {
             None => self.narrow.count(&case.plan, paper.result as usize),
         }
         self.widths.count(case, &paper);
+        self.widths_at_roots.count(&case.plan);
         let seen = Seen {
             case,
             paper: &paper,
@@ -73,6 +80,7 @@ impl Compared {
             roots: Roots::new(),
             narrow: Roots::new(),
             widths: Widths::default(),
+            widths_at_roots: WidthsAtRoots::new(),
             unfinished: 0,
             discards: Discards::default(),
             left_out: 0,
@@ -92,19 +100,20 @@ impl Compared {
     }
 
     /// Prints all figures; whether nothing differs and nothing is missing.
-    pub fn conclude(self, graphs: u64) -> bool {
+    pub fn conclude(self, graphs: &str) -> bool {
         let mut coverage = Coverage::default();
         let ours = self.ours.conclude(&mut coverage);
         self.sides.print(&mut coverage);
         self.roots.print("with the Rust", ENDS.len(), &mut coverage);
         self.narrow.print("narrow", 3, &mut coverage);
         self.widths.print(&mut coverage);
+        self.widths_at_roots.print(&mut coverage);
         self.panics.places.print(&mut coverage);
         self.discards.print(&mut coverage);
         let mut runs = |name: &str, count: u64| coverage.line(name, &[(count, "runs")], true);
         runs("dry within a value that took words", self.unfinished);
         runs("left out, the Rust's propagation explodes", self.left_out);
-        println!("{graphs} graphs");
+        println!("{graphs}");
         let rust = [self.rust.choices, self.rust.states, self.rust.outcomes];
         let reports = ours.into_iter().chain(rust).chain([self.panics.report]);
         conclude("search", &reports.collect::<Vec<_>>()) & coverage.conclude()

@@ -12,7 +12,7 @@ use monster::{
 use plain::cycles::new_ids;
 use std::rc::Rc;
 
-const BINARY: [BVOperator; 8] = [Add, Sub, Mul, Divu, Sltu, Remu, Equals, BitwiseAnd];
+pub const BINARY: [BVOperator; 8] = [Add, Sub, Mul, Divu, Sltu, Remu, Equals, BitwiseAnd];
 
 /// A graph with its root, most with new ids, half of them with inputs of fewer bits.
 /// Nearly all are accepted; a constant root other than 1 is not.
@@ -32,8 +32,13 @@ pub fn plan(random: &mut Random) -> Plan {
         root,
         widths,
     };
+    with_new_ids(&plan, random)
+}
+
+/// A third of them stay as they are.
+pub fn with_new_ids(plan: &Plan, random: &mut Random) -> Plan {
     let ids = new_ids(plan.nodes.len(), |most| random.below(most as u64) as usize);
-    under_new_ids(&plan, &ids)
+    under_new_ids(plan, &ids)
 }
 
 pub fn under_new_ids(plan: &Plan, ids: &[usize]) -> Plan {

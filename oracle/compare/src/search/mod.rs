@@ -1,5 +1,5 @@
-//! Whole runs on random graphs: ours and the Rust's against the plain reading of
-//! document 01, step by step and round by round.
+//! Whole runs on random graphs and on a sweep of small ones: ours and the Rust's
+//! against the plain reading of document 01, step by step and round by round.
 
 pub mod answers;
 pub mod cells;
@@ -18,8 +18,10 @@ pub mod roots;
 pub mod runs;
 pub mod rust;
 pub mod sides;
+pub mod sweep;
 pub mod trace;
 pub mod widths;
+pub mod widths_at_roots;
 
 use crate::numbers::Random;
 use compared::Compared;
@@ -39,5 +41,10 @@ pub fn compare() -> bool {
         let plan = graphs::plan(&mut random);
         runs::ask(plan, &mut random, &mut compared);
     }
-    compared.conclude(graphs)
+    let swept = sweep::plans(&mut random);
+    let all = format!("{graphs} random graphs, {} of the sweep", swept.len());
+    for plan in swept {
+        runs::ask(plan, &mut random, &mut compared);
+    }
+    compared.conclude(&all)
 }
