@@ -1,3 +1,4 @@
+#![tactic(auto)]
 // The values of all nodes: the start, and the pass that works every operator out, along a lent order in which operands come
 // first. No function here has a `requires`.
 ghost use Rattle.std.specs.Prelude.{◌≡◌, ◌≤◌, get_or, set};

@@ -1,3 +1,4 @@
+#![tactic(auto)]
 // Words of 64 bits, with the operations of a bit-vector solver, each by value.
 ghost use Rattle.std.specs.Prelude.{◌≡◌, ◌%◌, ◌==◌, nat_le};
 ghost use Rattle.bitvec.specs.Word.{M, bvadd, bvneg, bvsub, bvmul, bvudiv, bvurem, bvult, sltu, equals, is_zero, bvand, bvor, bvxor, bvnot, bvshl, bvlshr, ctz, addo, mulo};
@@ -6,7 +7,7 @@ pub mod debug;
 pub mod inverse;
 pub mod product;
 
-#[derive(Drop)]
+#[derive(Clone, Copy)]
 pub struct BitVector(pub u64);
 
 impl BitVector {

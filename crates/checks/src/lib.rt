@@ -1,3 +1,4 @@
+#![tactic(auto)]
 // "Numbers of refusal" 1 to 7 and 13: the checks of a graph file, in the papers' order.
 ghost use Rattle.std.specs.Prelude.{◌≤◌, ◌≡◌, ◌++◌, length};
 ghost use Rattle.laws.specs.Rows.{first};

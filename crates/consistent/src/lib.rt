@@ -1,3 +1,4 @@
+#![tactic(auto)]
 // The consistent value: monster.rs's compute_consistent_value, which `values` has with its refusals, by operator and side. t is the
 // target; Lhs: the operand sought is left.
 ghost use Rattle.std.specs.Prelude.{◌≡◌};

@@ -1,3 +1,4 @@
+#![tactic(auto)]
 // What Rust calls, for the comparison and the benchmark: few adapters, an operation's number and its arguments in, the answer's
 // number and fields into a lent buffer.
 ghost use Rattle.std.specs.Prelude.{◌≡◌};

@@ -1,3 +1,4 @@
+#![tactic(auto)]
 // The graph file: where its formula stands, the record of a node, the node. No function of this crate has a `requires`, and no
 // crate above it reads a byte of the file.
 ghost use Rattle.std.specs.Prelude.{◌≡◌, ◌≤◌, ltb};
@@ -15,7 +16,7 @@ pub mod record;
 pub mod view;
 
 // Where a file's formula stands: the place of record 0, the number of nodes, the root.
-#[derive(Drop)]
+#[derive(Clone, Copy)]
 pub struct Formula {
     pub first: usize,
     pub count: u32,
@@ -23,7 +24,7 @@ pub struct Formula {
 }
 
 // What byte 0 of a record says.
-#[derive(Drop)]
+#[derive(Clone, Copy)]
 pub enum Kind {
     Constant,
     Input,
@@ -33,7 +34,7 @@ pub enum Kind {
 }
 
 // A node: a constant and its value, an input with its label and width, Not and its operand, any other operator and its two.
-#[derive(Drop)]
+#[derive(Clone, Copy)]
 pub enum Node {
     Constant(BitVector),
     Input(Port),

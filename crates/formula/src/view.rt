@@ -6,7 +6,7 @@ ghost use Rattle.formula.specs.View.{symbol_of, operand_of, operands_of, is_leaf
 use super::{Formula, Node, node_at};
 use symbols::{BVOperator, Symbol, SymbolId};
 
-#[derive(Drop)]
+#[derive(Clone, Copy)]
 pub enum OperandIds {
     None,
     One(SymbolId),

@@ -1,3 +1,4 @@
+#![tactic(auto)]
 // The file `graph` that the programs read.
 ghost use Rattle.std.specs.Prelude.{◌≡◌, length};
 ghost use Rattle.io.specs.Counts.{IsPrefixLen};

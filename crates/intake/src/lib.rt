@@ -1,3 +1,4 @@
+#![tactic(auto)]
 // The words that a program takes from its standard input.
 ghost use Rattle.std.specs.Prelude.{◌≡◌, ◌++◌, ◌/◌, length, drop};
 ghost use Rattle.formula.specs.File.{le64};

@@ -1,3 +1,4 @@
+#![tactic(auto)]
 // The inverse value, raw: it is drawn by the row of the operator and side, whatever the table says. monster.rs's
 // compute_inverse_value, which `values` has with its refusals, by operator and side. s is the other operand's value, t the target;
 // Lhs: the operand sought is left.

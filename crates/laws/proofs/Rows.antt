@@ -24,7 +24,7 @@ module _ {X : Type 0} where
 
   -- a row above, whose condition fails, moves the deciding row down by one
   pub down : (c : Bool) (x : X) (rows : List (Row X)) (i : ℕ) → c ≡ false → Decides rows i → Decides (row c x ∷ rows) (suc i)
-  down c x rows i h w = record { holds = w.holds; before = λ j. elim j [ zero ↦ λ p. h | suc k ↦ λ p. w.before k (omega arith) ] }
+  down c x rows i h w = record { holds = w.holds; before = λ j. elim j as (λ k. k < suc i → holds_at (row c x ∷ rows) k ≡ false) [ zero ↦ λ p. h | suc k ↦ λ p. w.before k (omega arith) ] }
 
   pub up : (c : Bool) (x : X) (rows : List (Row X)) (i : ℕ) → Decides (row c x ∷ rows) (suc i) → (c ≡ false) × Decides rows i
   up c x rows i w = (w.before zero (omega arith), record { holds = w.holds; before = λ j p. w.before (suc j) (omega arith) })
@@ -49,7 +49,7 @@ module _ {X : Type 0} where
   settled (row false y ∷ rows) d x e =
       ⊎_elim
       (λ g. inl record { at = suc g.at; decides = down false y rows g.at refl g.decides; gives = g.gives })
-      (λ n. inr (λ i. elim i [ zero ↦ refl | suc k ↦ n.0 k ], n.1))
+      (λ n. inr (λ i. elim i as (λ k. holds_at (row false y ∷ rows) k ≡ false) [ zero ↦ refl | suc k ↦ n.0 k ], n.1))
       (settled rows d x e)
 
   -- x is given ↔ some row decides and gives x, or none holds and the default is x

@@ -1,3 +1,4 @@
+#![tactic(auto)]
 // Q-2: the listing of a graph, written into a lent buffer.
 ghost use Rattle.std.specs.Prelude.{◌≡◌, ◌≤◌, length};
 ghost use Rattle.text.specs.Text.{Wrote};

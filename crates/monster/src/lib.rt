@@ -1,3 +1,4 @@
+#![tactic(auto)]
 // One step of the search: which operand is sought, and the value that is passed to it. No function here has a `requires`.
 ghost use Rattle.std.specs.Prelude.{◌≡◌};
 ghost use Rattle.formula.specs.Graph.{graph_of, node_is};

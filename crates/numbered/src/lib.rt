@@ -1,3 +1,4 @@
+#![tactic(auto)]
 // The operations of BitVector by their numbers, as the comparison asks for them: three groups that are tried in turn.
 ghost use Rattle.std.specs.Prelude.{◌≡◌, length};
 ghost use Rattle.laws.specs.Rows.{first};

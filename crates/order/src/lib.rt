@@ -1,3 +1,4 @@
+#![tactic(auto)]
 // Q-1: nodes in any order. An order of a graph's nodes in which operands come first, and whether a node reaches itself.
 ghost use Rattle.std.specs.Prelude.{◌≡◌, true, false, ◌≤◌, ◌<◌, length};
 ghost use Rattle.symbols.specs.Graph.{Inside, Depends};

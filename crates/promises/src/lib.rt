@@ -1,1 +1,2 @@
+#![tactic(auto)]
 // What the value rules promise; the theorems are in proofs/.

@@ -1,3 +1,4 @@
+#![tactic(auto)]
 // Reachability: monster.rs's is_invertible. Each test is one expression: `|` and `&` on bools make no branch.
 ghost use Rattle.std.specs.Prelude.{◌≡◌};
 ghost use Rattle.reach.specs.Table.{table_says};

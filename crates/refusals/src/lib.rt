@@ -1,3 +1,4 @@
+#![tactic(auto)]
 // The line that a program prints of a refusal, into a lent buffer. No function here has a `requires`.
 ghost use Rattle.text.specs.Text.{WroteUpTo};
 ghost use Rattle.symbols.specs.Refusals.{number_of, values_of, named_of};

@@ -1,3 +1,4 @@
+#![tactic(auto)]
 // Replays a fixed list of answers, those of the original Rust and of a plain reading of the documents (oracle/README.md, "The list of
 // answers"), against the proved crates, with no Rust at hand. It stops at the first that differs.
 ghost use Rattle.std.specs.Prelude.{◌≡◌, ◌≤◌, length};

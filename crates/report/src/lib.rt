@@ -1,3 +1,4 @@
+#![tactic(auto)]
 // What the program prints of a search, into a lent buffer. No function here has a `requires`.
 ghost use Rattle.std.specs.Prelude.{◌≡◌, ◌+◌, ◌*◌, [], ◌++◌};
 ghost use Rattle.text.specs.Text.{Wrote, WroteUpTo};

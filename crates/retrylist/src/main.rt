@@ -1,3 +1,4 @@
+#![tactic(auto)]
 // The program: reads the file `graph` and prints its listing. All but the reading and writing is `respond`, whose contract says
 // what is printed.
 ghost use Rattle.std.specs.Prelude.{◌≡◌, ◌≤◌, length};

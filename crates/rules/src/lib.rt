@@ -1,3 +1,4 @@
+#![tactic(auto)]
 // What the value rules answer; specs/ says what they are, for any edition and for edition one. No code.
 use bitvec::BitVector;
 use words::WordSource;

@@ -78,11 +78,11 @@ not_constant : {a : Id} {c : Value} → unary a ≡ constant c → ⊥
 not_constant e = let z : ◌≡◌ {A = ℕ} 0 1 = cc in omega arith
 
 pub pair_lawful : Lawful kinds pair
-pair_lawful = toy_lawful pair_nodes 7 _ refl (omega arith) (λ c e. absurd (not_constant e))
+pair_lawful = toy_lawful pair_nodes 7 (9 ∷ 0 ∷ 0 ∷ 0 ∷ []) refl (omega arith) (λ c e. absurd (not_constant e))
 
 pub pair_sane : Sane pair.graph (pair_values 0 5)
 unfolding pass_from
-pair_sane = start_sane pair_nodes 7 _ pair_lawful (pair_values 0 5) refl refl
+pair_sane = start_sane pair_nodes 7 (9 ∷ 0 ∷ 0 ∷ 0 ∷ []) pair_lawful (pair_values 0 5) refl refl
 
 pub pair_rounds : rounds_of pair 8 (pair_values 0 5) 0 ≡ pair_first ∷ pair_second ∷ []
 unfolding rounds_of root_rounds rounds_from reached round pass_from
@@ -149,11 +149,11 @@ not_binary : {c : Value} {o : BVOperator} {a b : Id} → binary o a b ≡ consta
 not_binary e = let z : ◌≡◌ {A = ℕ} 0 1 = cc in omega arith
 
 pub unreal_lawful : Lawful kinds unreal
-unreal_lawful = toy_lawful unreal_nodes 4 _ refl (omega arith) (λ c e. absurd (not_binary e))
+unreal_lawful = toy_lawful unreal_nodes 4 (0 ∷ 0 ∷ []) refl (omega arith) (λ c e. absurd (not_binary e))
 
 pub unreal_sane : Sane unreal.graph unreal_round.before
 unfolding pass_from
-unreal_sane = start_sane unreal_nodes 4 _ unreal_lawful unreal_round.before refl refl
+unreal_sane = start_sane unreal_nodes 4 (0 ∷ 0 ∷ []) unreal_lawful unreal_round.before refl refl
 
 pub unreal_rounds : rounds_of unreal 2 unreal_round.before 0 ≡ unreal_round ∷ []
 unfolding rounds_of root_rounds rounds_from reached round pass_from
@@ -165,11 +165,11 @@ unreal_missed = (two tt tt, two (leaf_free unreal.graph 1 0 (λ j o. o) (λ z. o
 
 -- without the third: both steps took the inverse value, none is of a false kind; one passes by the input
 pub twice_lawful : Lawful kinds twice
-twice_lawful = toy_lawful twice_nodes 3 _ refl (omega arith) (λ c e. absurd (not_binary e))
+twice_lawful = toy_lawful twice_nodes 3 (0 ∷ 0 ∷ []) refl (omega arith) (λ c e. absurd (not_binary e))
 
 pub twice_sane : Sane twice.graph twice_round.before
 unfolding pass_from
-twice_sane = start_sane twice_nodes 3 _ twice_lawful twice_round.before refl refl
+twice_sane = start_sane twice_nodes 3 (0 ∷ 0 ∷ []) twice_lawful twice_round.before refl refl
 
 pub twice_rounds : rounds_of twice 2 twice_round.before 0 ≡ twice_round ∷ []
 unfolding rounds_of root_rounds rounds_from reached round pass_from
@@ -181,11 +181,11 @@ twice_missed = (two tt tt, two (λ h. h) (λ h. omega arith), λ e. omega arith)
 
 -- without the target that fits: the one step took the inverse value, is of no false kind, and passes by a constant
 pub narrow_lawful : Lawful kinds narrow
-narrow_lawful = toy_lawful narrow_nodes 2 _ refl (omega arith) (λ c e. absurd (not_binary e))
+narrow_lawful = toy_lawful narrow_nodes 2 (0 ∷ []) refl (omega arith) (λ c e. absurd (not_binary e))
 
 pub narrow_sane : Sane narrow.graph narrow_round.before
 unfolding pass_from
-narrow_sane = start_sane narrow_nodes 2 _ narrow_lawful narrow_round.before refl refl
+narrow_sane = start_sane narrow_nodes 2 (0 ∷ []) narrow_lawful narrow_round.before refl refl
 
 pub narrow_rounds : rounds_of narrow 1 narrow_round.before 0 ≡ narrow_round ∷ []
 unfolding rounds_of root_rounds rounds_from reached round pass_from

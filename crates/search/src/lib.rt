@@ -1,1 +1,2 @@
+#![tactic(auto)]
 // No code: the search as a machine over any step (specs/), and what its results mean (proofs/).

@@ -1,3 +1,4 @@
+#![tactic(auto)]
 // The library's entry. It demands nothing of its caller.
 ghost use Rattle.std.specs.Prelude.{◌≡◌};
 ghost use Rattle.symbols.specs.Graph.{Inside};

@@ -1,3 +1,4 @@
+#![tactic(auto)]
 // mod.rs of the source: the sides, the nine operators, symbols and their ids; and the refusals of document 01 and of Q-1.
 ghost use Rattle.std.specs.Prelude.{◌≡◌, not};
 ghost use Rattle.symbols.specs.Operators.{other_side, is_unary};
@@ -6,10 +7,10 @@ ghost use Rattle.symbols.specs.Refusals.{number_of, values_of, named_of};
 use bitvec::BitVector;
 
 // A node's id: never a value, as a `BitVector` is never an id.
-#[derive(Drop)]
+#[derive(Clone, Copy)]
 pub struct SymbolId(pub u32);
 
-#[derive(Drop)]
+#[derive(Clone, Copy)]
 pub enum OperandSide {
     Lhs,
     Rhs,
@@ -26,7 +27,7 @@ impl OperandSide {
     }
 }
 
-#[derive(Drop)]
+#[derive(Clone, Copy)]
 pub enum BVOperator {
     Add,
     Sub,
@@ -66,14 +67,14 @@ impl BVOperator {
 pub mod width;
 
 // An input: its label, and byte 4 of its record as it stands (specs/Width.antt reads it).
-#[derive(Drop)]
+#[derive(Clone, Copy)]
 pub struct Port {
     pub label: u64,
     pub width: u8,
 }
 
 // An input holds its label.
-#[derive(Drop)]
+#[derive(Clone, Copy)]
 pub enum Symbol {
     Constant(BitVector),
     Input(u64),

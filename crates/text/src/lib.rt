@@ -1,3 +1,4 @@
+#![tactic(auto)]
 // Text into a lent buffer. A writer stores its text from a place on and answers the place after it; of a text that does not fit
 // the front is stored, and the answer is the same: so a writer on an empty buffer measures. No function here has a `requires`.
 ghost use Rattle.std.specs.Prelude.{◌≡◌, [], ◌∷◌, ◌++◌};

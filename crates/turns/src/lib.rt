@@ -1,3 +1,4 @@
+#![tactic(auto)]
 // The search: turns while steps are left. A turn is a step and, where it comes to a leaf, the end of the round.
 ghost use Rattle.std.specs.Prelude.{◌≡◌, [], ◌≤◌, ◌<◌};
 ghost use Rattle.formula.specs.Graph.{graph_of};

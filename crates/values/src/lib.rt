@@ -1,3 +1,4 @@
+#![tactic(auto)]
 // monster.rs's compute_inverse_value, compute_consistent_value and compute_inverse_value_for_unary_op, with refusals where the source
 // panics, and the choice of `value`. Arguments as in the source, then the lent words and the source of words.
 ghost use Rattle.std.specs.Prelude.{◌≡◌};

@@ -1,10 +1,11 @@
+#![tactic(auto)]
 // The word source, which replaces thread_rng: a place in a lent list of words. "a word source that has given a word is a new word
 // source, and a draw answers either the words and the source after them, or Dry". Dry carries no source: the caller still has its
 // own, unmoved.
 ghost use Rattle.std.specs.Prelude.{◌≡◌, ◌+◌, ◌<◌};
 ghost use Rattle.words.specs.Words.{draw_at, multiple, even_at, range_at, coin_at, choosing_at, two_at, not_at};
 
-#[derive(Drop)]
+#[derive(Clone, Copy)]
 pub struct WordSource {
     pub at: usize,
 }

@@ -1,9 +1,0 @@
--- `reach::mul_reaches` meets its contract: the calls' own, put together. Assumes nothing.
-use borrow.Author.Rules.{rules}
-use Rattle.reach.specs.Table.{table_says}
-use Rattle.reach.proofs.mul_reaches.Statement.{statement}
-use Rattle.reach.proofs.mul_reaches.Tie as tie
-
-pub mul_reaches_spec : {M : Type 1} → statement M
-unfolding table_says
-mul_reaches_spec = tie.close (tie.spec (λ c κs. search rules) (λ c κs. search rules) (λ c κs. search rules) (λ c κs. search rules) (λ c. cc))

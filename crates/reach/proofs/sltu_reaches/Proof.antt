@@ -1,7 +1,0 @@
--- `reach::sltu_reaches` meets its contract: on each side the call gives what the table says. Assumes nothing.
-use borrow.Author.Rules.{rules}
-use Rattle.reach.proofs.sltu_reaches.Statement.{statement}
-use Rattle.reach.proofs.sltu_reaches.Tie as tie
-
-pub sltu_reaches_spec : {M : Type 1} → statement M
-sltu_reaches_spec = tie.close (tie.spec (λ c. search rules) (λ c κs. search rules) (λ c. search rules) (λ c κs. search rules) (λ c. cc) (λ c. cc))
