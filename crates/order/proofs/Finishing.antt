@@ -121,8 +121,8 @@ module _ (g : Graph) (p o s : List ℕ) (w : Walk) (walk : Walking g p o s w) (u
   steady_push j e t v ht hd hr = λ a.
       let z = did a (Push j) e in
       let d : v.depth ≡ suc w.depth = omega arith in
-      rw (d, hr, ht, get_or-set_same s w.depth j.0 0 (omega (arith, z.0, walk.stacked)), open_below s w.depth w.depth j.0 (omega arith), open_top)
-      (sym z.1)
+      let below : open_of t w.depth ≡ open_of s w.depth = ap (λ (l : List ℕ). open_of l w.depth) ht ∙ open_below s w.depth w.depth j.0 (omega arith) in
+      rw (d, hr, ht, get_or-set_same s w.depth j.0 0 (omega (arith, z.0, walk.stacked)), below, open_top) (sym z.1)
 
   pub steady_pop : x ≡ Pop → (r : List ℕ) (v : Walk) → r ≡ set o w.done u → v.depth ≡ w.depth - 1 → v.done ≡ w.done + 1 → Steady g (ahead g o s w) r s (On v)
   unfolding ahead

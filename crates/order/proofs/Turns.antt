@@ -8,7 +8,7 @@ use native.Mathlib.Decide.{ℕ_discrete, dec_lt}
 use lib.ListN.{length, get_or, set, get_or-eq_default}
 use lib.Seq.{set_out}
 use borrow.Author.Tests.{eq-eqb, ne_eqb}
-use Rattle.symbols.specs.Graph.{Id, Node, Graph, Operand, Inside}
+use Rattle.symbols.specs.Graph.{Id, Node, unary, binary, Graph, Operand, Inside}
 use Rattle.symbols.specs.Order.{Arranged, Looped}
 use Rattle.symbols.specs.declared.SymbolId.{SymbolId}
 use Rattle.symbols.specs.declared.BVOperator.{BVOperator}
@@ -75,10 +75,10 @@ says_look n p j rest h more =
 says : (n : code.Node) (p : List ℕ) → Says (node_is n) p (move_of n p)
 says (node.Constant v) p = λ j o. absurd o
 says (node.Input l) p = λ j o. absurd o
-says (node.Unary a) p = says_look _ p a Pop refl (λ h j o. subst (λ (x : ℕ). 2 ≤ get_or p x 0) (sym o) h)
+says (node.Unary a) p = says_look (unary a.0) p a Pop refl (λ h j o. subst (λ (x : ℕ). 2 ≤ get_or p x 0) (sym o) h)
 says (node.Binary o a b) p =
-    says_look _ p a _ (inl refl)
-    (λ h. says_look _ p b Pop (inr refl)
+    says_look (binary o a.0 b.0) p a (look_by (get_or p b.0 0) b Pop) (inl refl)
+    (λ h. says_look (binary o a.0 b.0) p b Pop (inr refl)
     (λ k j e.
     ⊎_elim
     (λ z. subst (λ (x : ℕ). 2 ≤ get_or p x 0) (sym z) h)

@@ -10,7 +10,7 @@ use formula::{Formula, Node, node_at};
 use symbols::SymbolId;
 
 // The next id to begin at, how many nodes are open, and how many are done.
-#[derive(Drop)]
+#[derive(Clone, Copy)]
 pub struct Walk {
     pub next: u32,
     pub depth: u32,

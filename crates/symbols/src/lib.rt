@@ -82,7 +82,7 @@ pub enum Symbol {
 }
 
 // "Numbers of refusal": specs/Refusals.antt gives each case its number and values.
-#[derive(Drop)]
+#[derive(Clone, Copy)]
 pub enum Refusal {
     Size,
     Trailer,
@@ -101,7 +101,7 @@ pub enum Refusal {
 }
 
 // The values of a refusal: none, or an id.
-#[derive(Drop)]
+#[derive(Clone, Copy)]
 pub enum Named {
     Nothing,
     Id(SymbolId),

@@ -1,0 +1,10 @@
+-- `consistent::consistent_and` meets its contract. Assumes nothing.
+use borrow.Author.Rules.{rules}
+use Rattle.consistent.proofs.Rows.{and_dry, and_word}
+use Rattle.consistent.proofs.consistent_and.Goals as goal
+
+pub returns-in_default : goal.returns-in_default
+returns-in_default c d = search (and_dry, rules)
+
+pub returns : goal.returns
+returns c d = search (and_word, rules)

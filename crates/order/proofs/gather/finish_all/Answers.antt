@@ -1,0 +1,22 @@
+-- `order::gather::finish_all` meets its contract. Assumes nothing.
+use mathlib.Core.Path.{refl}
+use native.Mathlib.Omega.{arith}
+use borrow.Author.Rules.{rules}
+use Rattle.order.proofs.Turns.{turn_on, turn_less}
+use Rattle.order.proofs.Gathering.{gather_on, gather_looped, gather_end, gather_few}
+use Rattle.order.proofs.gather.finish_all.Goals as goal
+
+pub loop-w-init : goal.loop-w-init
+loop-w-init c = (search rules, refl, search rules, search rules, search rules)
+
+pub returns-in-Loop : goal.returns-in-Loop
+returns-in-Loop c = (search (gather_looped, rules), omega arith)
+
+pub loop-w-smaller : goal.loop-w-smaller
+loop-w-smaller c = search (turn_less, rules)
+
+pub loop-w-preserved : goal.loop-w-preserved
+loop-w-preserved c = (search (turn_on, rules), search (gather_on, rules), search rules, search rules, search rules)
+
+pub returns : goal.returns
+returns c = (search (gather_end, rules), search (gather_few, rules))
