@@ -63,7 +63,7 @@ lowest p (suc k) h = from (p zero) refl (lowest (λ i. p (suc i)) k h)
     from true e w = record { at = zero; low = omega arith; holds = e; below = λ i b. absurd (omega arith) }
     from false e w =
         let l = w.low in
-        record { at = suc w.at; low = omega arith; holds = w.holds; below = λ i. elim i [ zero ↦ λ b. e | suc j ↦ λ b. w.below j (omega arith) ] }
+        record { at = suc w.at; low = omega arith; holds = w.holds; below = λ i. elim i as (λ k. k < suc w.at → p k ≡ false) [ zero ↦ λ b. e | suc j ↦ λ b. w.below j (omega arith) ] }
 
 -- two rows of each record, upward: row q of record x stands at 2x + q
 module _ (f : File) (m : Formula) where
@@ -270,7 +270,7 @@ module _ (f : File) where
       let l = checks_length f in
       let x = row_exactly f 1 Trailer (omega arith) refl in (
         λ e. ((x.0 e).before 0 (omega arith), (x.0 e).holds),
-        λ h. x.1 record { holds = h.1; before = λ j. elim j [ zero ↦ λ p. h.0 | suc k ↦ λ p. absurd (omega arith) ] },
+        λ h. x.1 record { holds = h.1; before = λ j. elim j as (λ k. k < 1 → holds_at (checks f) k ≡ false) [ zero ↦ λ p. h.0 | suc k ↦ λ p. absurd (omega arith) ] },
       )
 
   -- 3 Span
@@ -282,7 +282,10 @@ module _ (f : File) where
         λ e. ((x.0 e).before 0 (omega arith), (x.0 e).before 1 (omega arith), (x.0 e).holds),
         λ h. x.1 record {
           holds = h.2;
-          before = λ j. elim j [ zero ↦ λ p. h.0 | suc k ↦ elim k [ zero ↦ λ p. h.1 | suc l ↦ λ p. absurd (omega arith) ] ];
+          before = λ j. elim j as (λ k. k < 2 → holds_at (checks f) k ≡ false) [
+              | zero ↦ λ p. h.0
+              | suc k ↦ elim k as (λ i. suc i < 2 → holds_at (checks f) (suc i) ≡ false) [ zero ↦ λ p. h.1 | suc i ↦ λ p. absurd (omega arith) ]
+            ];
         },
       )
 

@@ -20,7 +20,7 @@ pub enum Selected {
 }
 
 // A node, its target and the source of the next word.
-#[derive(Drop)]
+#[derive(Clone, Copy)]
 pub struct Walk {
     pub node: SymbolId,
     pub target: BitVector,

@@ -14,7 +14,7 @@ use symbols::SymbolId;
 use words::WordSource;
 
 // Where the search stands, with the rounds completed, the lost ones among them, and the steps completed.
-#[derive(Drop)]
+#[derive(Clone, Copy)]
 struct State {
     walk: Walk,
     rounds: u32,
