@@ -22,14 +22,14 @@ struct State {
     steps: u32,
 }
 
-#[derive(Drop)]
+#[derive(Clone, Copy)]
 pub enum End {
     Solved,
     Spent,
     Dry,
 }
 
-#[derive(Drop)]
+#[derive(Clone, Copy)]
 pub struct Outcome {
     pub end: End,
     pub rounds: u32,
