@@ -4,8 +4,10 @@
 ghost use Rattle.std.specs.Prelude.{◌≡◌, ◌≤◌, length};
 
 use formula::bytes::{least, u32_at};
+use graphfile::read_full;
 use intake::words_from;
-use libc::STDOUT_FILENO;
+use std::io::Read;
+use std::{fs, io};
 use text::{put_field, put_text};
 
 // At most k bytes from a place on.
@@ -114,15 +116,15 @@ fn body_room() -> [u8; 400]
     [0; 400]
 }
 
-fn read_body(list: i32, head: &[u8], body: &mut [u8]) -> bool {
-    let k = io::read_full(list, body);
+fn read_body<R: Read>(list: &mut R, head: &[u8], body: &mut [u8]) -> bool {
+    let k = read_full(list, body);
     agrees(head, part(body, 0, k), u32_at(head, 8), u32_at(head, 12))
 }
 
 // Reads the next entry: a head of twelve fields, and what it says follows.
-fn next_agrees(list: i32) -> bool {
+fn next_agrees<R: Read>(list: &mut R) -> bool {
     let mut head = [0u8; 48];
-    io::read_full(list, &mut head);
+    read_full(list, &mut head);
     let f = u32_at(&head, 8) as usize;
     let w = u32_at(&head, 12) as usize;
     let v = u32_at(&head, 16) as usize;
@@ -132,7 +134,7 @@ fn next_agrees(list: i32) -> bool {
 }
 
 // How many entries agree, up to the first that does not.
-fn replay(list: i32, total: u32) -> u32
+fn replay<R: Read>(list: &mut R, total: u32) -> u32
     ensures { result ≤ total }
 {
     let mut i: u32 = 0;
@@ -145,15 +147,24 @@ fn replay(list: i32, total: u32) -> u32
     i
 }
 
-fn main() {
-    let list = os::open_read(b"list");
+// How many entries the list says that it has.
+fn count_of<R: Read>(list: &mut R) -> u32 {
     let mut count = [0u8; 4];
-    io::read_full(list, &mut count);
-    let total = u32_at(&count, 0);
-    let agreed = replay(list, total);
+    read_full(list, &mut count);
+    u32_at(&count, 0)
+}
+
+// A list that can't be opened counts as empty.
+fn main(rt: HostRuntime) -> io::Result<()> {
+    let mut total = 0;
+    let mut agreed = 0;
+    if let Ok(mut list) = fs::open(&rt, "list") {
+        total = count_of(&mut list);
+        agreed = replay(&mut list, total);
+    }
     let mut out = [0u8; 64];
     let a = put_field(&mut out, 0, b"replayed ", agreed as u64);
     let b = put_field(&mut out, a, b" of ", total as u64);
     let c = put_text(&mut out, b, b"\n");
-    io::write_all(STDOUT_FILENO, part(&out, 0, c));
+    rt.write_all(part(&out, 0, c))
 }

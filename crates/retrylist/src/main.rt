@@ -6,8 +6,8 @@ ghost use Rattle.text.specs.Text.{WroteUpTo};
 ghost use Rattle.retrylist.specs.Printed.{printed};
 
 use graphfile::{file_room, read_graph};
-use libc::STDOUT_FILENO;
 use listing::Listed;
+use std::io;
 
 // No listing is longer: refusal 14 never occurs.
 fn page() -> [u8; 164000]
@@ -27,10 +27,10 @@ fn respond(file: &[u8], out: &mut [u8]) -> usize
     }
 }
 
-fn main() {
+fn main(rt: HostRuntime) -> io::Result<()> {
     let mut file = file_room();
     let mut out = page();
-    let n = read_graph(&mut file);
+    let n = read_graph(&rt, &mut file);
     let r = respond(&file[..n], &mut out);
-    io::write_all(STDOUT_FILENO, &out[..r]);
+    rt.write_all(&out[..r])
 }

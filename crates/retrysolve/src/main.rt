@@ -12,9 +12,9 @@ ghost use Rattle.retrysolve.specs.Printed.{budget, text_of, printed_with, printe
 use checks::Checked;
 use formula::Formula;
 use formula::bytes::least;
-use graphfile::{file_room, read_graph};
-use libc::{STDIN_FILENO, STDOUT_FILENO};
+use graphfile::{file_room, read_full, read_graph};
 use solve::Answer;
+use std::io;
 
 // Buffers, of which callers need the length alone: 4,096 words.
 fn input_room() -> [u8; 32768]
@@ -73,12 +73,12 @@ fn respond(file: &[u8], input: &[u8], out: &mut [u8]) -> usize
     }
 }
 
-fn main() {
+fn main(rt: HostRuntime) -> io::Result<()> {
     let mut file = file_room();
     let mut input = input_room();
     let mut out = page();
-    let n = read_graph(&mut file);
-    let k = io::read_full(STDIN_FILENO, &mut input);
+    let n = read_graph(&rt, &mut file);
+    let k = read_full(&mut rt.stdin(), &mut input);
     let r = respond(&file[..n], &input[..k], &mut out);
-    io::write_all(STDOUT_FILENO, &out[..r]);
+    rt.write_all(&out[..r])
 }
