@@ -28,7 +28,7 @@ pub struct Walk {
 }
 
 // What a step chose: Not has one value; at a binary operator the operand on a side gets the inverse or the consistent value.
-#[derive(Drop)]
+#[derive(Clone, Copy)]
 pub enum Choice {
     Not,
     Inverse(OperandSide),
