@@ -19,8 +19,7 @@ pub fn id_of(r: Refusal) -> u64
 }
 
 // 0, n and the root of an accepted file; else the refusal's number and the id that it names.
-#[unsafe(no_mangle)]
-pub extern "C" fn check_file(file: &[u8], out: &mut [u64])
+pub fn check_file(file: &[u8], out: &mut [u64])
     ensures { out.new ≡ checked (verdict file.now) out.old }
 {
     match checks::check(file) {

@@ -30,8 +30,7 @@ fn write(found: Found, out: &mut [u64])
 }
 
 // An operation of BitVector by its number (numbered/specs/Bitvec.antt): 1 and its value, or 0 and 0.
-#[unsafe(no_mangle)]
-pub extern "C" fn bitvec_op(op: u64, a: u64, b: u64, out: &mut [u64])
+pub fn bitvec_op(op: u64, a: u64, b: u64, out: &mut [u64])
     ensures { out.new ≡ written (bitvec_op op a b) out.old }
 {
     write(numbered::operation(op, a, b), out);

@@ -8,8 +8,7 @@ use super::out::put_three;
 use listing::Listed;
 
 // 0 and the length of the listing, which `text` begins with; or the refusal's number and the id that it names.
-#[unsafe(no_mangle)]
-pub extern "C" fn list_file(file: &[u8], text: &mut [u8], out: &mut [u64])
+pub fn list_file(file: &[u8], text: &mut [u8], out: &mut [u64])
     ensures { (out.new ≡ listed_as (answer file.now text.old) out.old) × (text.new ≡ text_after (answer file.now text.old)) }
 {
     match listing::list(file, text) {

@@ -28,14 +28,7 @@ fn end_no(e: End) -> u64
 }
 
 // 0, how it ended (0 solved, 1 spent, 2 dry), rounds, lost rounds, steps and words; or the refusal's number and the id that it names.
-#[unsafe(no_mangle)]
-pub extern "C" fn solve_file(
-    file: &[u8],
-    words: &[u64],
-    budget: u32,
-    values: &mut [u64],
-    out: &mut [u64],
-)
+pub fn solve_file(file: &[u8], words: &[u64], budget: u32, values: &mut [u64], out: &mut [u64])
     ensures { (out.new ≡ solved (answer one file.now words.now budget values.old) out.old) × (values.new ≡ values_after (answer one file.now words.now budget values.old)) }
 {
     match solve::solve(file, words, budget, values) {
@@ -109,8 +102,7 @@ fn write_step(s: Move, out: &mut [u64])
 // Where one step leads from a node with its target and the place of the next word: 0, the node, its target, the place after, what was
 // chosen (0 Not, 1 the inverse, 2 the consistent value) and the side (0 Lhs, 1 Rhs); 12 and the place where the words ran out; or the
 // file's refusal.
-#[unsafe(no_mangle)]
-pub extern "C" fn step_op(
+pub fn step_op(
     file: &[u8],
     words: &[u64],
     values: &[u64],

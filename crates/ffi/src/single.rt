@@ -144,8 +144,7 @@ fn rule(
 
 // A rule (0 the table, 1 inverse, 2 consistent, 3 unary) of an operator, by its kind's number, and a side (0 Lhs, 1 Rhs): 1 and
 // what the table says; 0, the value and the place after its words; or the refusal's number. 99 for another number.
-#[unsafe(no_mangle)]
-pub extern "C" fn rule_op(
+pub fn rule_op(
     number: u64,
     op: u64,
     side: u64,
