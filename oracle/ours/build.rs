@@ -15,7 +15,7 @@ fn main() {
     println!("cargo:rustc-check-cfg=cfg(linked)");
 
     let bytes = fs::read(&library)
-        .unwrap_or_else(|_| panic!("no {library:?}: `rt staticlib ffi` makes it"));
+        .unwrap_or_else(|_| panic!("no {library:?}: `tools/static-library` makes it"));
     if machine(&bytes) == target() {
         println!("cargo:rustc-cfg=linked");
         let dir = library.parent().expect("a file is in a folder");
