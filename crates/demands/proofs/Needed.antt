@@ -9,7 +9,7 @@ use lib.ListN.{get_or}
 use lib.Dec.{ltb}
 use borrow.Author.Tests.{ltb-true}
 use Rattle.words.specs.Words.{Words}
-use Rattle.symbols.specs.Graph.{Id, Value, Node, input, binary, Graph, Operand, Depends, direct, through}
+use Rattle.symbols.specs.Graph.{Id, Value, Node, binary, Graph, Operand, Depends, direct, through}
 use Rattle.symbols.specs.declared.OperandSide.{OperandSide}
 use Rattle.symbols.specs.declared.BVOperator.{BVOperator}
 use Rattle.symbols.specs.declared.BVOperator.TheVariants.{Add, Sub, Mul, Divu, Sltu, Remu, Not, Equals, BitwiseAnd}

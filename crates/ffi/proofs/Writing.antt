@@ -3,7 +3,6 @@ use Prim.Native.Nat.{ℕ}
 use mathlib.Core.Path.{◌≡◌, sym, ap, ◌∙◌}
 use mathlib.Core.List.{List}
 use lib.ListN.{set}
-use Rattle.bitvec.specs.declared.inverse.Inverse.TheVariants as inverse
 use Rattle.numbered.specs.declared.Found.{Found}
 use Rattle.numbered.specs.declared.Found.TheVariants.{Value, Nothing}
 use Rattle.ffi.specs.Out.{written}

@@ -283,9 +283,9 @@ module _ (f : File) where
         λ h. x.1 record {
           holds = h.2;
           before = λ j. elim j as (λ k. k < 2 → holds_at (checks f) k ≡ false) [
-              | zero ↦ λ p. h.0
-              | suc k ↦ elim k as (λ i. suc i < 2 → holds_at (checks f) (suc i) ≡ false) [ zero ↦ λ p. h.1 | suc i ↦ λ p. absurd (omega arith) ]
-            ];
+            | zero ↦ λ p. h.0
+            | suc k ↦ elim k as (λ i. suc i < 2 → holds_at (checks f) (suc i) ≡ false) [ zero ↦ λ p. h.1 | suc i ↦ λ p. absurd (omega arith) ]
+          ];
         },
       )
 

@@ -9,7 +9,7 @@ use native.Mathlib.Numerals.{add-one}
 use native.Mathlib.Decide.{ℕ_discrete}
 use lib.ListN.{get_or, set, take}
 use lib.Seq.{get_or-set_same, get_or-set_other, take-suc-set}
-use Rattle.symbols.specs.Graph.{Id, Node, Graph, Operand}
+use Rattle.symbols.specs.Graph.{Id, Graph, Operand}
 use Rattle.symbols.specs.Order.{Acyclic}
 use Rattle.symbols.specs.declared.SymbolId.{SymbolId}
 use Rattle.formula.specs.Graph.{node_is}

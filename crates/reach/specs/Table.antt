@@ -1,6 +1,6 @@
 -- Document 01, "Reachability, inverse and consistent values": "Table says yes when". s is the other operand's value, t the target;
 -- Lhs: the operand sought is left. One clause a row, in the paper's order. Assumes nothing.
-use Rattle.std.specs.Prelude.{ℕ, ◌-◌, ◌*◌, Bool, true, not, ◌&&◌, ◌||◌, ltb, leb, eqb}
+use Rattle.std.specs.Prelude.{◌-◌, ◌*◌, Bool, true, not, ◌&&◌, ◌||◌, ltb, leb, eqb}
 use Rattle.laws.specs.Pick.{pick}
 use Rattle.bitvec.specs.Word.{M, bvneg, bvand, bvor}
 use Rattle.symbols.specs.Graph.{Value}

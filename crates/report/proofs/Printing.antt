@@ -10,7 +10,6 @@ use Rattle.text.proofs.Writing.{wrote_nothing, wrote_append}
 use Rattle.symbols.specs.Graph.{Id, Value, Graph}
 use Rattle.symbols.specs.declared.SymbolId.{SymbolId}
 use Rattle.symbols.specs.declared.BVOperator.{BVOperator}
-use Rattle.symbols.specs.declared.Refusal.TheVariants as refusal
 use Rattle.bitvec.specs.declared.BitVector.{BitVector}
 use Rattle.formula.specs.File.{File}
 use Rattle.formula.specs.Graph.{graph_of, node_is}
@@ -23,7 +22,6 @@ use Rattle.turns.specs.declared.End.{End}
 use Rattle.turns.specs.declared.End.TheVariants.{Solved, Spent, Dry}
 use Rattle.turns.specs.declared.Outcome.{Outcome}
 use Rattle.report.specs.Report.{field, end_word, counts, first_line, input_line, line_of, lines_below, result_text}
-use Rattle.symbols.specs.declared.Named.TheVariants as named
 use Rattle.symbols.specs.declared.Port.{Port}
 use Rattle.report.proofs.Lengths.{input_length, first_length}
 

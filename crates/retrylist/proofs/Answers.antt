@@ -15,7 +15,7 @@ use Rattle.formula.specs.Graph.{graph_of}
 use Rattle.checks.specs.Refusals as file
 use Rattle.checks.specs.Refusals.{verdict}
 use Rattle.listing.specs.Listing.{listing}
-use Rattle.listing.specs.Answer.{written, refused, refuse, fitted, on_verdict, answer, result_of, Bounded}
+use Rattle.listing.specs.Answer.{written, refuse, fitted, on_verdict, answer, result_of, Bounded}
 use Rattle.listing.specs.declared.Listed.{Listed}
 use Rattle.listing.specs.declared.Listed.TheVariants as told
 use Rattle.refusals.specs.Line.{refusal_text}

@@ -1,17 +1,16 @@
 -- Q-3 over the machine: which targets an input takes, what its values are, and that "old files mean the same". Assumes nothing.
 use Prim.Native.Nat.{ℕ, ◌≤◌, ◌<◌, ◌^◌}
-use mathlib.Core.Path.{◌≡◌, refl, ap, subst, ◌∙◌}
+use mathlib.Core.Path.{◌≡◌, refl, ap, subst}
 use mathlib.Core.Bool.{Bool, true, false}
 use mathlib.Core.Logic.{◌↔◌, ◌⊎◌}
 use native.Mathlib.Omega.{arith}
-use lib.Dec.{ltb}
 use borrow.Author.Tests.{ltb-true, ltb-false, le-ltb}
 use Rattle.laws.specs.Pick.{pick}
 use Rattle.symbols.specs.Graph.{Id, Value, Node, input, Graph}
 use Rattle.symbols.specs.Width.{room, fits}
 use Rattle.symbols.specs.declared.Port.{Port}
 use Rattle.symbols.proofs.Fitting.{bits_old, fits_64}
-use Rattle.search.specs.Machine.{Values, value_of, Landing, stores, loses, landing}
+use Rattle.search.specs.Machine.{Values, value_of, stores, loses, landing}
 use Rattle.search.specs.Solution.{Right, Sane}
 
 lost_false : (b : Bool) → pick b stores loses ≡ loses → b ≡ false

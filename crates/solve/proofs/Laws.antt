@@ -16,7 +16,6 @@ use Rattle.symbols.specs.declared.Refusal.{Refusal}
 use Rattle.symbols.specs.declared.Refusal.TheVariants as refusal
 use Rattle.formula.specs.File.{File}
 use Rattle.formula.specs.Graph.{graph_of}
-use Rattle.checks.specs.Refusals as file
 use Rattle.checks.specs.Refusals.{verdict, answer_of}
 use Rattle.formula.specs.declared.Formula.{Formula}
 use Rattle.checks.specs.declared.Finding.{Finding}

@@ -5,13 +5,13 @@ use Rattle.listing.proofs.list_accepted.Goals as goal
 
 pub gather-n-requires : goal.gather-n-requires
 gather-n-requires c = (
-      search (accepted_acyclic, rules),
-      search (accepted_few, rules),
-      search (accepted_room, rules),
-      search (accepted_room, rules),
-      search (accepted_room, rules),
-      search (accepted_rooted, rules),
-    )
+  search (accepted_acyclic, rules),
+  search (accepted_few, rules),
+  search (accepted_room, rules),
+  search (accepted_room, rules),
+  search (accepted_room, rules),
+  search (accepted_rooted, rules),
+)
 
 pub slice_bounds-order-end : goal.slice_bounds-order-end
 slice_bounds-order-end c = search (part_inside, rules)

@@ -21,6 +21,5 @@ overflow_add-result c =
     let below : c.in-Word.w % (a.b - a.a + 1) < a.b - a.a + 1 = mod-lt c.in-Word.w (omega arith) in
     omega arith
 
-
 pub returns : goal.returns
 returns c = search (range_part, rules)
