@@ -5,7 +5,7 @@ ghost use Rattle.bitvec.specs.Debug.{debug_text, held};
 use super::BitVector;
 
 // The first `len` of `bytes` are the text, and the others are 0.
-#[derive(Drop)]
+#[derive(Clone, Copy)]
 pub struct Text {
     pub bytes: [u8; 66],
     pub len: usize,

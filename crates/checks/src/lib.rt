@@ -17,13 +17,13 @@ use formula::{Formula, Kind, Node, lookup, node_at};
 use symbols::{Refusal, SymbolId};
 
 // What a part of the checks found.
-#[derive(Drop)]
+#[derive(Clone, Copy)]
 pub enum Finding {
     Clear,
     Refuse(Refusal),
 }
 
-#[derive(Drop)]
+#[derive(Clone, Copy)]
 pub enum Checked {
     Accepted(Formula),
     Refused(Refusal),

@@ -10,20 +10,20 @@ use symbols::{BVOperator, OperandSide};
 use values::{Unary, Valued};
 use words::WordSource;
 
-#[derive(Drop)]
+#[derive(Clone, Copy)]
 pub enum Operator {
     Is(BVOperator),
     Unknown,
 }
 
-#[derive(Drop)]
+#[derive(Clone, Copy)]
 pub enum Side {
     Is(OperandSide),
     Unknown,
 }
 
 // The number, the value and the place that are left in the buffer.
-#[derive(Drop)]
+#[derive(Clone, Copy)]
 pub struct Fields(pub u64, pub u64, pub u64);
 
 fn operator_no(op: u64) -> Operator

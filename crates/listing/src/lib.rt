@@ -15,7 +15,7 @@ use symbols::{Refusal, SymbolId};
 
 pub mod line;
 
-#[derive(Drop)]
+#[derive(Clone, Copy)]
 pub enum Listed {
     Length(usize),
     Refused(Refusal),

@@ -13,7 +13,7 @@ use values::Chosen;
 use words::{Toss, WordSource};
 
 // The operand sought, with the source after the coin; NoCoin where the coin's word is missing.
-#[derive(Drop)]
+#[derive(Clone, Copy)]
 pub enum Selected {
     Operand(OperandSide, WordSource),
     NoCoin,
@@ -36,7 +36,7 @@ pub enum Choice {
 }
 
 // Where a step leads and what it chose; or Dry with the source where the words ran out.
-#[derive(Drop)]
+#[derive(Clone, Copy)]
 pub enum Move {
     To(Walk, Choice),
     Dry(WordSource),

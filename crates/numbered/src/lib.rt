@@ -8,7 +8,7 @@ ghost use Rattle.numbered.specs.Bitvec.{bitvec_op, method_rows, word_rows, test_
 use bitvec::BitVector;
 use bitvec::inverse::Inverse;
 
-#[derive(Drop)]
+#[derive(Clone, Copy)]
 pub enum Found {
     Value(u64),
     Nothing,

@@ -18,14 +18,14 @@ pub struct Walk {
 }
 
 // What is to be done at an open node: an operand not met yet is next, an operand is open, or the node is done.
-#[derive(Drop)]
+#[derive(Clone, Copy)]
 pub enum Move {
     Push(SymbolId),
     Open(SymbolId),
     Pop,
 }
 
-#[derive(Drop)]
+#[derive(Clone, Copy)]
 pub enum Turn {
     On(Walk),
     Loop,

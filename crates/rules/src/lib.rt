@@ -4,7 +4,7 @@ use bitvec::BitVector;
 use words::WordSource;
 
 // A value and the source after its words, or Dry: the caller still has its own source, unmoved.
-#[derive(Drop)]
+#[derive(Clone, Copy)]
 pub enum Drawn {
     Value(BitVector, WordSource),
     Dry,

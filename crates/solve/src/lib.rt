@@ -13,7 +13,7 @@ use symbols::Refusal;
 use turns::Outcome;
 use words::WordSource;
 
-#[derive(Drop)]
+#[derive(Clone, Copy)]
 pub enum Answer {
     Ended(Outcome),
     Refused(Refusal),

@@ -15,21 +15,21 @@ use symbols::{BVOperator, OperandSide, Refusal};
 use words::{Toss, WordSource};
 
 // A value and the source after its words, or the refusal: 10 Arity, 11 NoInverse or 12 Dry.
-#[derive(Drop)]
+#[derive(Clone, Copy)]
 pub enum Valued {
     Value(BitVector, WordSource),
     Refused(Refusal),
 }
 
 // A value that needs no word, or the refusal: 10 Arity.
-#[derive(Drop)]
+#[derive(Clone, Copy)]
 pub enum Unary {
     Value(BitVector),
     Refused(Refusal),
 }
 
 // The value that a step passes on and the source after its words, or the source where they ran out.
-#[derive(Drop)]
+#[derive(Clone, Copy)]
 pub enum Chosen {
     Inverse(BitVector, WordSource),
     Consistent(BitVector, WordSource),

@@ -10,21 +10,21 @@ pub struct WordSource {
     pub at: usize,
 }
 
-#[derive(Drop)]
+#[derive(Clone, Copy)]
 pub enum Draw {
     Word(u64, WordSource),
     Dry,
 }
 
 // What a coin or the choosing word says.
-#[derive(Drop)]
+#[derive(Clone, Copy)]
 pub enum Toss {
     Fell(bool, WordSource),
     Dry,
 }
 
 // Two words, low first.
-#[derive(Drop)]
+#[derive(Clone, Copy)]
 pub enum Pair {
     Words(u64, u64, WordSource),
     Dry,
