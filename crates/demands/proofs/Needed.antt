@@ -18,7 +18,7 @@ use Rattle.formula.specs.Graph.{kind_no, graph_of}
 use Rattle.search.specs.Machine.{Values, Out}
 use Rattle.search.specs.Round.{Taken}
 use Rattle.search.specs.Demand.{All, none, more, Free, Fair, Concluded}
-use Rattle.existence.specs.Kinds.{FalseYes, at_divu, at_sltu, at_equals, at_not_lem}
+use Rattle.existence.specs.Kinds.{FalseYes, at_divu, at_sltu, at_equals, at_not}
 use Rattle.rules.specs.One.{one}
 use Rattle.solve.specs.Solve.{ended, answer}
 use Rattle.lawful.specs.Owed.{false_kinds}
@@ -77,11 +77,11 @@ could : {o : BVOperator} {d : OperandSide} {s t : Value} → FalseYes o d s t �
 could (inl (at_divu a b c e)) = tt
 could (inr (at_sltu h y)) = h
 could (inr (at_equals h y)) = h
-could (inr (at_not_lem h)) = h
+could (inr (at_not h)) = h
 
 -- at Not, the target above 1 is kind (b) and no other is of a false kind, as `false_kinds` has it
 pub kind_not : (d : OperandSide) (s t : Value) → FalseYes Not d s t ↔ (1 < t)
-kind_not d s t = (could, λ h. inr (at_not_lem h))
+kind_not d s t = (could, λ h. inr (at_not h))
 
 add_honest : {d : OperandSide} {s t : Value} → FalseYes Add d s t → ⊥
 add_honest h = could h

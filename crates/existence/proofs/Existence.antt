@@ -10,7 +10,7 @@ use Rattle.symbols.specs.declared.OperandSide.TheVariants.{Lhs, Rhs}
 use Rattle.symbols.specs.declared.BVOperator.{BVOperator}
 use Rattle.symbols.specs.declared.BVOperator.TheVariants.{Divu, Sltu, Remu, Not, Equals}
 use Rattle.reach.specs.Table.{table_says}
-use Rattle.existence.specs.Kinds.{Reachable, KindA, KindB, KindC, at_divu, at_sltu, at_equals, at_not_lem, at_remu, FalseYes, Existence}
+use Rattle.existence.specs.Kinds.{Reachable, KindA, KindB, KindC, at_divu, at_sltu, at_equals, at_not, at_remu, FalseYes, Existence}
 use Rattle.existence.proofs.Wrong.{kind_a, kind_b, kind_c}
 use Rattle.existence.proofs.Rows.{row}
 
@@ -34,6 +34,6 @@ kinds_occur = (
   at_divu {s = 7} {t = 4} (omega arith) (omega arith) (omega arith) (λ e. omega arith),
   at_sltu {s = 3} {t = 2} (omega arith) refl,
   at_equals {s = 3} {t = 2} (omega arith) refl,
-  at_not_lem {t = 2} (omega arith),
+  at_not {t = 2} (omega arith),
   at_remu refl,
 )

@@ -23,7 +23,7 @@ use Rattle.symbols.specs.declared.OperandSide.TheVariants.{Lhs, Rhs}
 use Rattle.symbols.specs.declared.BVOperator.{BVOperator}
 use Rattle.symbols.specs.declared.BVOperator.TheVariants.{Add, Sub, Mul, Divu, Sltu, Remu, Not, Equals, BitwiseAnd}
 use Rattle.reach.specs.Table.{table_says}
-use Rattle.existence.specs.Kinds.{Reachable, FalseYes, FalseNo, at_divu, at_sltu, at_equals, at_not_lem, at_remu}
+use Rattle.existence.specs.Kinds.{Reachable, FalseYes, FalseNo, at_divu, at_sltu, at_equals, at_not, at_remu}
 
 -- tests and facts
 eqb_iff : (a b : ℕ) → (eqb a b ≡ true) ↔ (a ≡ b)
@@ -227,7 +227,7 @@ module _ (s t : Value) (hs : s < 2 ^ 64) (ht : t < 2 ^ 64) where
   negation : (d : OperandSide) → Row Not d s t
   unfolding table_says
   negation d = (
-    λ y. ⊎_elim inl (λ h. inr (inr (at_not_lem {t = t} (omega arith)))) (bit (λ x. eqb x 0) t (λ z. (1, omega arith, refl)) (λ o. (0, omega arith, refl))),
+    λ y. ⊎_elim inl (λ h. inr (inr (at_not {t = t} (omega arith)))) (bit (λ x. eqb x 0) t (λ z. (1, omega arith, refl)) (λ o. (0, omega arith, refl))),
     λ p. inl refl,
   )
 

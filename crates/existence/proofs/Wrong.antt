@@ -15,7 +15,7 @@ use Rattle.symbols.specs.declared.OperandSide.TheVariants.{Lhs, Rhs}
 use Rattle.symbols.specs.declared.BVOperator.{BVOperator}
 use Rattle.symbols.specs.declared.BVOperator.TheVariants.{Divu, Sltu, Remu, Not, Equals}
 use Rattle.reach.specs.Table.{table_says}
-use Rattle.existence.specs.Kinds.{Reachable, KindA, KindB, KindC, at_divu, at_sltu, at_equals, at_not_lem, at_remu}
+use Rattle.existence.specs.Kinds.{Reachable, KindA, KindB, KindC, at_divu, at_sltu, at_equals, at_not, at_remu}
 
 -- a truth value is 1 or 0
 bit_lt : (b : Bool) → bool_byte b < 2
@@ -63,7 +63,7 @@ kind_a hs ht (at_divu {s} {t} h m l n) = (yes_quotient s t hs ht (omega arith) (
 pub kind_b : {o : BVOperator} {d : OperandSide} {s t : Value} → s < 2 ^ 64 → t < 2 ^ 64 → KindB o d s t → (table_says o d s t ≡ true) × (Reachable o d s t → ⊥)
 kind_b hs ht (at_sltu {d} {s} {t} h y) = ((cc), low_sltu s t hs ht d (omega arith))
 kind_b hs ht (at_equals {d} {s} {t} h y) = ((cc), low_equals s t hs ht d (omega arith))
-kind_b hs ht (at_not_lem {d} {s} {t} h) = (yes_not d s t, low_not s t hs ht d (omega arith))
+kind_b hs ht (at_not {d} {s} {t} h) = (yes_not d s t, low_not s t hs ht d (omega arith))
 
 pub kind_c : {o : BVOperator} {d : OperandSide} {s t : Value} → t < 2 ^ 64 → KindC o d s t → (table_says o d s t ≡ false) × Reachable o d s t
 kind_c ht (at_remu {s} {t} z) = (no_remainder s t (omega arith), (t, ht, all_remainder s t (omega arith)))

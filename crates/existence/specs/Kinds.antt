@@ -27,7 +27,7 @@ pub data KindA : BVOperator → OperandSide → Value → Value → Type 0 where
 pub data KindB : BVOperator → OperandSide → Value → Value → Type 0 where
   at_sltu : {d : OperandSide} {s t : Value} → 1 < t → table_says Sltu d s t ≡ true → KindB Sltu d s t
   at_equals : {d : OperandSide} {s t : Value} → 1 < t → table_says Equals d s t ≡ true → KindB Equals d s t
-  at_not_lem : {d : OperandSide} {s t : Value} → 1 < t → KindB Not d s t
+  at_not : {d : OperandSide} {s t : Value} → 1 < t → KindB Not d s t
 
 -- "(c) Remu Lhs, s = 0"
 pub data KindC : BVOperator → OperandSide → Value → Value → Type 0 where

@@ -23,7 +23,7 @@ use Rattle.search.specs.Machine.{Values, value_of, Step, to, dry}
 use Rattle.search.specs.Lawful.{Led, place_after, Dries}
 use Rattle.rules.specs.Rules.{Rules, Got, took_inverse, took_consistent, stuck, value_at}
 use Rattle.rules.specs.One.{one}
-use Rattle.promises.specs.Choice.{Drew, no_consistent_lem, says_no, no_inverse, no_choice, chosen, not_chosen, Onward, Chose}
+use Rattle.promises.specs.Choice.{Drew, no_consistent, says_no, no_inverse, no_choice, chosen, not_chosen, Onward, Chose}
 use Rattle.promises.proofs.Choice.{value_drew, drew_value, value_chose, one_faithful, taken_gives}
 use Rattle.monster.specs.Step.{Here, is_constant, essential, Way, way, no_way, coin_way, sides, way_at, toward, along_way, step_by, step_from, here_of}
 use Rattle.lawful.specs.Owed.{false_kinds, SteadyRules}
@@ -101,7 +101,7 @@ coin_same ws us n toss.Dry e = inl tt
 
 module _ (ρ : Rules) (steady : SteadyRules ρ) where
   got_onward : (o : BVOperator) (d : OperandSide) (s t : Value) (ws : Words) (n : Place) (g : Got) → Drew ρ o d s t ws n g → Onward ws n (got_place g)
-  got_onward o d s t ws n g (no_consistent_lem e) = inl refl
+  got_onward o d s t ws n g (no_consistent e) = inl refl
   got_onward o d s t ws n g (says_no c p i y) = (steady.consistents o d t).moves ws n c p i
   got_onward o d s t ws n g (no_inverse c p i y e) = (steady.consistents o d t).moves ws n c p i
   got_onward o d s t ws n g (no_choice c p v q i e) =
@@ -117,7 +117,7 @@ module _ (ρ : Rules) (steady : SteadyRules ρ) where
 
   got_same : (o : BVOperator) (d : OperandSide) (s t : Value) (ws us : Words) (n : Place) (g : Got) → Drew ρ o d s t ws n g
       → Stuck g ⊎ (value_at ρ o d s t (ws ++ us) n ≡ g)
-  got_same o d s t ws us n g (no_consistent_lem e) = inl tt
+  got_same o d s t ws us n g (no_consistent e) = inl tt
   got_same o d s t ws us n g (says_no c p i y) =
       inr (drew_value ρ o d s t (ws ++ us) n _ (says_no c p ((steady.consistents o d t).longer ws us n c p i) y))
   got_same o d s t ws us n g (no_inverse c p i y e) = inl tt

@@ -21,7 +21,7 @@ use Rattle.reach.specs.Table.{table_says}
 use Rattle.existence.specs.Kinds.{FalseYes}
 use Rattle.rules.specs.Rules.{Rules, Got, took_inverse, took_consistent, stuck, after, after_toss, invert_at, value_at}
 use Rattle.rules.specs.One.{one}
-use Rattle.promises.specs.Choice.{Consistent, Inverted, Drew, no_consistent_lem, says_no, no_inverse, no_choice, chosen, not_chosen, Faithful, Onward, Chose}
+use Rattle.promises.specs.Choice.{Consistent, Inverted, Drew, no_consistent, says_no, no_inverse, no_choice, chosen, not_chosen, Faithful, Onward, Chose}
 use Rattle.promises.proofs.Gives.{inverse_gives}
 use Rattle.promises.proofs.Kept.{inverse_keeps, consistent_keeps}
 
@@ -46,7 +46,7 @@ module _ (ρ : Rules) (o : BVOperator) (d : OperandSide) (s t : Value) (ws : Wor
 
   at_consistent : (x : Draw) → ρ.consistent o d t ws n ≡ x → Drew ρ o d s t ws n (after x n (λ c a. pick (ρ.table o d s t) (invert_at ρ o d s t ws c a) (took_consistent c a)))
   at_consistent (draw.Word c p) e = at_table c p e (ρ.table o d s t) refl
-  at_consistent draw.Dry e = no_consistent_lem e
+  at_consistent draw.Dry e = no_consistent e
 
   pub value_drew : Drew ρ o d s t ws n (value_at ρ o d s t ws n)
   unfolding value_at
@@ -55,7 +55,7 @@ module _ (ρ : Rules) (o : BVOperator) (d : OperandSide) (s t : Value) (ws : Wor
   -- and the other way round: the draws determine the choice
   pub drew_value : (g : Got) → Drew ρ o d s t ws n g → value_at ρ o d s t ws n ≡ g
   unfolding value_at invert_at
-  drew_value g (no_consistent_lem e) = rw e
+  drew_value g (no_consistent e) = rw e
   drew_value g (says_no c p i y) = rw (i, y)
   drew_value g (no_inverse c p i y e) = rw (i, y, e)
   drew_value g (no_choice c p v q i e) = rw (i.0, i.1, i.2, e)
@@ -73,7 +73,7 @@ module _ (ρ : Rules) (faithful : Faithful ρ) (o : BVOperator) (d : OperandSide
   value_chose = go (value_at ρ o d s t ws n) (value_drew ρ o d s t ws n)
     where
       go : (g : Got) → Drew ρ o d s t ws n g → Chose ρ o d s t ws n g
-      go g (no_consistent_lem e) = inl refl
+      go g (no_consistent e) = inl refl
       go g (says_no c p i y) =
           let k = faithful.consistents o d t ht ws small n c p i in
           (k.small, k.moves, λ us. drew_value ρ o d s t (ws ++ us) n _ (says_no c p (k.longer us) y))
@@ -112,7 +112,7 @@ taken_gives o d s t hs ht ws small n v m e = go (value_at one o d s t ws n) (val
     not_kept c k e = let z : ◌≡◌ {A = ℕ} 0 1 = cc in absurd (omega arith)
 
     go : (g : Got) → Drew one o d s t ws n g → g ≡ took_inverse v m → (table_says o d s t ≡ true) × ((FalseYes o d s t → ⊥) → apply_at o d v s ≡ t)
-    go g (no_consistent_lem e) f = not_stuck n f
+    go g (no_consistent e) f = not_stuck n f
     go g (says_no c p i y) f = not_kept c p.at f
     go g (no_inverse c p i y e) f = not_stuck p.at f
     go g (no_choice c p w q i e) f = not_stuck q.at f

@@ -23,7 +23,7 @@ module _ (ρ : Rules) (o : BVOperator) (d : OperandSide) (s t : Value) (ws : Wor
 
   -- "Then the consistent value is drawn; if the table says yes, the inverse, then the choosing word."
   pub data Drew : Got → Type 0 where
-    no_consistent_lem : ρ.consistent o d t ws n ≡ draw.Dry → Drew (stuck n)
+    no_consistent : ρ.consistent o d t ws n ≡ draw.Dry → Drew (stuck n)
     says_no : (c : Value) (p : WordSource) → Consistent c p → ρ.table o d s t ≡ false → Drew (took_consistent c p.at)
     no_inverse : (c : Value) (p : WordSource) → Consistent c p → ρ.table o d s t ≡ true → ρ.inverse o d s t ws p.at ≡ draw.Dry → Drew (stuck p.at)
     no_choice : (c : Value) (p : WordSource) (v : Value) (q : WordSource) → Inverted c p v q → choosing_at ws q.at ≡ toss.Dry → Drew (stuck q.at)
