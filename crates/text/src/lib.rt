@@ -42,7 +42,8 @@ pub fn put_text(out: &mut [u8], at: usize, text: &[u8]) -> usize
 pub fn put_decimal(out: &mut [u8], at: usize, v: u64) -> usize
     ensures { Wrote (decimal v) at out.old out.new result }
 {
-    if v < 10 {
+    let one_digit = v < 10;
+    if one_digit {
         put_byte(out, at, 48 + v as u8)
     } else {
         let n = put_decimal(out, at, v / 10);
