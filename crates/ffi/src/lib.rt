@@ -1,6 +1,6 @@
 #![tactic(auto)]
-// What Rust calls, for the comparison and the benchmark: few adapters, an operation's number and its arguments in, the answer's
-// number and fields into a lent buffer.
+// What `ffi_c` hands to Rust, for the comparison and the benchmark: few adapters, an operation's number and its arguments in, the
+// answer's number and fields into a lent buffer.
 ghost use Rattle.std.specs.Prelude.{◌≡◌};
 ghost use Rattle.numbered.specs.Bitvec.{bitvec_op};
 ghost use Rattle.ffi.specs.Out.{written};

@@ -20,7 +20,7 @@ operands_by go (unary a) seen = go a seen
 operands_by go (binary o a b) seen = go b (go a seen)
 
 -- what is listed after a visit of i, given what was before it: "once each", "operands before their operator". The depth is for
--- graphs with cycles, where the source does not end: any depth above a node's rank gives the same (proofs/Walk.antt, walk-depth).
+-- graphs with cycles, where the source does not end: any depth above a node's rank gives the same (proofs/Walk.antt, walk_depth).
 unfoldable pub walk : Graph → ℕ → Id → Ids → Ids
 walk g zero i seen = seen
 walk g (suc k) i seen = pick (has seen i) seen (operands_by (walk g k) (g.node i) seen ++ (i ∷ []))
