@@ -2,38 +2,23 @@
 // Text into a lent buffer. A writer stores its text from a place on and answers the place after it; of a text that does not fit
 // the front is stored, and the answer is the same: so a writer on an empty buffer measures. No function here has a `requires`.
 ghost use Rattle.std.specs.Prelude.{◌≡◌, [], ◌∷◌, ◌++◌};
-ghost use Rattle.text.specs.Text.{after, Wrote, decimal};
-
-// The place k bytes on, or the last.
-fn place_after(at: usize, k: usize) -> usize
-    ensures { result ≡ after at k }
-{
-    if k <= usize::MAX - at {
-        at + k
-    } else {
-        usize::MAX
-    }
-}
+ghost use Rattle.text.specs.Text.{Wrote, decimal};
 
 pub fn put_byte(out: &mut [u8], at: usize, b: u8) -> usize
     ensures { Wrote (b ∷ []) at out.old out.new result }
 {
     if at < out.len() {
         out[at] = b;
-        at + 1
-    } else {
-        place_after(at, 1)
     }
+    at.saturating_add(1)
 }
 
 pub fn put_text(out: &mut [u8], at: usize, text: &[u8]) -> usize
     ensures { Wrote text.now at out.old out.new result }
 {
     let mut n = at;
-    let mut i: usize = 0;
-    while i < text.len() {
-        n = put_byte(out, n, text[i]);
-        i += 1;
+    for &b in text {
+        n = put_byte(out, n, b);
     }
     n
 }
@@ -44,10 +29,10 @@ pub fn put_decimal(out: &mut [u8], at: usize, v: u64) -> usize
 {
     let one_digit = v < 10;
     if one_digit {
-        put_byte(out, at, 48 + v as u8)
+        put_byte(out, at, b'0' + v as u8)
     } else {
         let n = put_decimal(out, at, v / 10);
-        put_byte(out, n, 48 + (v % 10) as u8)
+        put_byte(out, n, b'0' + (v % 10) as u8)
     }
 }
 

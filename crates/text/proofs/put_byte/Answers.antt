@@ -1,9 +1,7 @@
 use borrow.Author.Rules.{rules}
 use Rattle.text.proofs.Writing.{byte_in, byte_past}
 use Rattle.text.proofs.put_byte.Goals as goal
+use Rattle.text.proofs.put_byte.Goals.{then-at-out, else-at-out}
 
-pub returns-then-at-out : goal.returns-then-at-out
-returns-then-at-out c = search (byte_in, rules)
-
-pub returns-else-at-out : goal.returns-else-at-out
-returns-else-at-out c = search (byte_past, rules)
+pub returns : goal.returns
+returns c = elim c.if-at-out.branch [ then-at-out w ↦ search (byte_in, rules) | else-at-out w ↦ search (byte_past, rules) ]

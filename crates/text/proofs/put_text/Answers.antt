@@ -1,16 +1,12 @@
-use native.Mathlib.Omega.{arith}
 use borrow.Author.Rules.{rules}
-use Rattle.text.proofs.Writing.{wrote_kept, text_begin, text_more, text_whole}
+use Rattle.text.proofs.Writing.{text_begin, text_more, text_whole}
 use Rattle.text.proofs.put_text.Goals as goal
 
-pub loop-i-init : goal.loop-i-init
-loop-i-init c = (omega arith, search (text_begin, rules))
+pub loop-b-init : goal.loop-b-init
+loop-b-init c = search (text_begin, rules)
 
-pub loop-i-preserved : goal.loop-i-preserved
-loop-i-preserved c = (omega arith, search (text_more, rules))
-
-pub shape_of-out : goal.shape_of-out
-shape_of-out c = search (wrote_kept, rules)
+pub loop-b-preserved : goal.loop-b-preserved
+loop-b-preserved c = search (text_more, rules)
 
 pub returns : goal.returns
 returns c = search (text_whole, rules)
