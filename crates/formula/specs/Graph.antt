@@ -1,12 +1,12 @@
 -- Document 01, "The graph file": what a record says, and the graph that a file is. Assumes nothing.
-use Rattle.std.specs.Prelude.{ℕ, List, [], ◌∷◌, get_or}
+use Rattle.std.specs.Prelude.{ℕ, List, [], ◌∷◌, Option, Some, None, slice_get}
 use Rattle.symbols.specs.Graph.{Graph, Node, constant, input, unary, binary}
 use Rattle.symbols.specs.declared.Port.{Port}
 use Rattle.symbols.specs.declared.BVOperator.TheVariants.{Add, Sub, Mul, Divu, Sltu, Remu, Equals, BitwiseAnd}
 use Rattle.formula.specs.File.{File, Record, byte, le32, le64, record_at}
 use Rattle.formula.specs.declared.Formula.{Formula}
 use Rattle.formula.specs.declared.Kind.{Kind}
-use Rattle.formula.specs.declared.Kind.TheVariants.{Constant, Input, Unary, Binary, Unknown}
+use Rattle.formula.specs.declared.Kind.TheVariants.{Constant, Input, Unary, Binary}
 use Rattle.formula.specs.declared.Node.TheVariants as node
 
 -- "Byte 0 is the kind: 0 Constant, 1 Input, 2 Add, 3 Sub, 4 Mul, 5 Divu, 6 Sltu, 7 Remu, 8 Not, 9 Equals, 10 BitwiseAnd."
@@ -25,10 +25,10 @@ kinds =
     ∷ Binary BitwiseAnd
     ∷ []
 
-unfoldable pub kind_no : ℕ → Kind
-kind_no b = get_or kinds b Unknown
+unfoldable pub kind_no : ℕ → Option Kind
+kind_no b = slice_get kinds b
 
-abbrev pub kind_of : Record → Kind
+abbrev pub kind_of : Record → Option Kind
 kind_of r = kind_no (byte r 0)
 
 -- "inputs a label (u64, may repeat), in 8 to 15"; Q-3: "Byte 4 of an input record now says its width in bits"
@@ -38,12 +38,12 @@ port_of r = record { label = le64 r 8; width = byte r 4 }
 -- "Operators: left (or only) operand as u32 in bytes 4 to 7; binary ones the right in 8 to 11. Constants hold their value
 -- … in 8 to 15." A record of no known kind, which the check refuses, reads as the constant 0,
 -- and so does an empty one.
-abbrev pub node_by : Kind → Record → Node
-node_by Constant r = constant (le64 r 8)
-node_by Input r = input (port_of r)
-node_by Unary r = unary (le32 r 4)
-node_by (Binary o) r = binary o (le32 r 4) (le32 r 8)
-node_by Unknown r = constant 0
+abbrev pub node_by : Option Kind → Record → Node
+node_by (Some Constant) r = constant (le64 r 8)
+node_by (Some Input) r = input (port_of r)
+node_by (Some Unary) r = unary (le32 r 4)
+node_by (Some (Binary o)) r = binary o (le32 r 4) (le32 r 8)
+node_by None r = constant 0
 
 abbrev pub node_of : Record → Node
 node_of r = node_by (kind_of r) r

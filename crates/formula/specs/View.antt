@@ -1,11 +1,16 @@
--- The Formula view of symbolic_state.rs, of a node of the abstract graph. Assumes nothing.
+-- The Formula view of symbolic_state.rs: the graph that is seen, and of a node of the abstract graph what is asked. Assumes nothing.
 use Rattle.std.specs.Prelude.{Bool, true, false}
-use Rattle.symbols.specs.Graph.{Id, Node, constant, input, unary, binary}
+use Rattle.symbols.specs.Graph.{Id, Node, constant, input, unary, binary, Graph}
 use Rattle.symbols.specs.declared.BVOperator.TheVariants.{Not}
 use Rattle.symbols.specs.declared.Symbol.{Symbol}
 use Rattle.symbols.specs.declared.Symbol.TheVariants as symbol
+use Rattle.formula.specs.Graph.{graph_of}
+use Rattle.formula.specs.declared.view.FormulaView.{FormulaView}
 use Rattle.formula.specs.declared.view.OperandIds.{OperandIds}
 use Rattle.formula.specs.declared.view.OperandIds.TheVariants as ids
+
+abbrev pub graph : FormulaView → Graph
+graph v = graph_of v.file.now v.layout
 
 abbrev pub symbol_of : Node → Symbol
 symbol_of (constant v) = symbol.Constant record { 0 = v }

@@ -3,34 +3,31 @@ ghost use Rattle.std.specs.Prelude.{◌≡◌};
 ghost use Rattle.formula.specs.File.{le32, le64};
 ghost use Rattle.formula.specs.Graph.{kind_no, kind_of, port_of, node_by, node_is};
 
-use super::bytes::{byte_at, u32_at};
+use super::bytes::{byte_at, u32_at, u64_at};
 use super::{Kind, Node};
 use bitvec::BitVector;
 use symbols::{BVOperator, Port, SymbolId};
 
-fn kind_no(b: u8) -> Kind
-    ensures { result ≡ kind_no b }
-{
-    match b {
-        0 => Kind::Constant,
-        1 => Kind::Input,
-        2 => Kind::Binary(BVOperator::Add),
-        3 => Kind::Binary(BVOperator::Sub),
-        4 => Kind::Binary(BVOperator::Mul),
-        5 => Kind::Binary(BVOperator::Divu),
-        6 => Kind::Binary(BVOperator::Sltu),
-        7 => Kind::Binary(BVOperator::Remu),
-        8 => Kind::Unary,
-        9 => Kind::Binary(BVOperator::Equals),
-        10 => Kind::Binary(BVOperator::BitwiseAnd),
-        _ => Kind::Unknown,
-    }
-}
+// Byte 0 of a record, by its number.
+const KINDS: [Kind; 11] = [
+    Kind::Constant,
+    Kind::Input,
+    Kind::Binary(BVOperator::Add),
+    Kind::Binary(BVOperator::Sub),
+    Kind::Binary(BVOperator::Mul),
+    Kind::Binary(BVOperator::Divu),
+    Kind::Binary(BVOperator::Sltu),
+    Kind::Binary(BVOperator::Remu),
+    Kind::Unary,
+    Kind::Binary(BVOperator::Equals),
+    Kind::Binary(BVOperator::BitwiseAnd),
+];
 
-pub fn record_kind(r: &[u8]) -> Kind
+#[tactic(auto, unfolding(crate::specs::Graph::kind_no))]
+pub fn record_kind(r: &[u8]) -> Option<Kind>
     ensures { result ≡ kind_of r.now }
 {
-    kind_no(byte_at(r, 0))
+    KINDS.get(byte_at(r, 0) as usize).copied()
 }
 
 pub fn left(r: &[u8]) -> SymbolId
@@ -49,9 +46,7 @@ pub fn right(r: &[u8]) -> SymbolId
 pub fn value(r: &[u8]) -> u64
     ensures { result ≡ le64 r.now 8 }
 {
-    let low = u32_at(r, 8) as u64;
-    let high = u32_at(r, 12) as u64;
-    low + 4294967296 * high
+    u64_at(r, 8)
 }
 
 fn port(r: &[u8]) -> Port
@@ -64,14 +59,14 @@ fn port(r: &[u8]) -> Port
 }
 
 // What a record of this kind holds.
-pub fn decode(k: Kind, r: &[u8]) -> Node
+pub fn decode(k: Option<Kind>, r: &[u8]) -> Node
     ensures { node_is result ≡ node_by k r.now }
 {
     match k {
-        Kind::Constant => Node::Constant(BitVector(value(r))),
-        Kind::Input => Node::Input(port(r)),
-        Kind::Unary => Node::Unary(left(r)),
-        Kind::Binary(op) => Node::Binary(op, left(r), right(r)),
-        Kind::Unknown => Node::Constant(BitVector(0)),
+        Some(Kind::Constant) => Node::Constant(BitVector(value(r))),
+        Some(Kind::Input) => Node::Input(port(r)),
+        Some(Kind::Unary) => Node::Unary(left(r)),
+        Some(Kind::Binary(op)) => Node::Binary(op, left(r), right(r)),
+        None => Node::Constant(BitVector(0)),
     }
 }

@@ -1,10 +1,84 @@
-// The Formula view of symbolic_state.rs, as much of it as the solver uses.
+// A graph file with where its formula stands: the Formula view of symbolic_state.rs, as much of it as the solver uses.
 ghost use Rattle.std.specs.Prelude.{◌≡◌};
-ghost use Rattle.formula.specs.Graph.{graph_of, node_is};
-ghost use Rattle.formula.specs.View.{symbol_of, operand_of, operands_of, is_leaf};
+ghost use Rattle.formula.specs.File.{record_at};
+ghost use Rattle.formula.specs.Graph.{node_is};
+ghost use Rattle.formula.specs.View.{graph, symbol_of, operand_of, operands_of, is_leaf};
 
-use super::{Formula, Node, node_at};
+use super::record::{decode, record_kind};
+use super::{Formula, Node};
 use symbols::{BVOperator, Symbol, SymbolId};
+
+#[derive(Clone, Copy)]
+pub struct FormulaView<'a> {
+    pub file: &'a [u8],
+    pub layout: Formula,
+}
+
+impl FormulaView<'_> {
+    pub fn count(&self) -> u32
+        ensures { result ≡ self.now.layout.count }
+    {
+        self.layout.count
+    }
+
+    pub fn root(&self) -> SymbolId
+        ensures { result ≡ self.now.layout.root }
+    {
+        self.layout.root
+    }
+
+    // "the record of a node is those sixteen bytes of the file itself": of an id not below the count the empty part, and of a
+    // formula that is not the file's own what the file has there.
+    pub fn record(&self, id: SymbolId) -> &[u8]
+        ensures { result.now ≡ record_at self.now.file.now self.now.layout id.0 }
+    {
+        if self.layout.count <= id.0 {
+            return &[];
+        }
+        let start = self
+            .layout
+            .first
+            .saturating_add(16 * (id.0 as usize))
+            .min(self.file.len());
+        let rest = &self.file[start..];
+        &rest[..rest.len().min(16)]
+    }
+
+    // The node with this id. An id not below the count, and a record of no known kind, which the check refuses, read as the
+    // constant 0.
+    #[tactic(auto, using(crate::proofs::Reading::node_is_lem), unfolding(crate::specs::Graph::graph_of))]
+    pub fn node(&self, id: SymbolId) -> Node
+        ensures { node_is result ≡ (graph self.now).node id.0 }
+    {
+        let record = self.record(id);
+        decode(record_kind(record), record)
+    }
+
+    pub fn symbol(&self, id: SymbolId) -> Symbol
+        ensures { result ≡ symbol_of ((graph self.now).node id.0) }
+    {
+        self.node(id).symbol()
+    }
+
+    // Of a leaf its own id: the source panics there.
+    pub fn operand(&self, id: SymbolId) -> SymbolId
+        ensures { result.0 ≡ operand_of id.0 ((graph self.now).node id.0) }
+    {
+        self.node(id).operand(id)
+    }
+
+    pub fn operands(&self, id: SymbolId) -> OperandIds
+        ensures { result ≡ operands_of ((graph self.now).node id.0) }
+    {
+        self.node(id).operands()
+    }
+
+    pub fn is_operand(&self, id: SymbolId) -> bool
+        ensures { result ≡ is_leaf ((graph self.now).node id.0) }
+    {
+        self.node(id).is_operand()
+    }
+}
 
 #[derive(Clone, Copy)]
 pub enum OperandIds {
@@ -20,8 +94,8 @@ impl Node {
         match self {
             Node::Constant(v) => Symbol::Constant(v),
             Node::Input(p) => Symbol::Input(p.label),
-            Node::Unary(a) => Symbol::Operator(BVOperator::Not),
-            Node::Binary(op, a, b) => Symbol::Operator(op),
+            Node::Unary(_) => Symbol::Operator(BVOperator::Not),
+            Node::Binary(op, _, _) => Symbol::Operator(op),
         }
     }
 
@@ -30,10 +104,8 @@ impl Node {
         ensures { result.0 ≡ operand_of id.0 (node_is self) }
     {
         match self {
-            Node::Constant(v) => id,
-            Node::Input(p) => id,
-            Node::Unary(a) => a,
-            Node::Binary(op, a, b) => a,
+            Node::Constant(_) | Node::Input(_) => id,
+            Node::Unary(a) | Node::Binary(_, a, _) => a,
         }
     }
 
@@ -41,10 +113,9 @@ impl Node {
         ensures { result ≡ operands_of (node_is self) }
     {
         match self {
-            Node::Constant(v) => OperandIds::None,
-            Node::Input(p) => OperandIds::None,
+            Node::Constant(_) | Node::Input(_) => OperandIds::None,
             Node::Unary(a) => OperandIds::One(a),
-            Node::Binary(op, a, b) => OperandIds::Two(a, b),
+            Node::Binary(_, a, b) => OperandIds::Two(a, b),
         }
     }
 
@@ -52,42 +123,6 @@ impl Node {
     pub fn is_operand(self) -> bool
         ensures { result ≡ is_leaf (node_is self) }
     {
-        match self {
-            Node::Constant(v) => true,
-            Node::Input(p) => true,
-            Node::Unary(a) => false,
-            Node::Binary(op, a, b) => false,
-        }
+        matches!(self, Node::Constant(_) | Node::Input(_))
     }
-}
-
-pub fn root(m: Formula) -> SymbolId
-    ensures { result ≡ m.root }
-{
-    m.root
-}
-
-pub fn symbol(file: &[u8], m: Formula, id: SymbolId) -> Symbol
-    ensures { result ≡ symbol_of ((graph_of file.now m).node id.0) }
-{
-    node_at(file, m, id).symbol()
-}
-
-// Of a leaf its own id: the source panics there.
-pub fn operand(file: &[u8], m: Formula, id: SymbolId) -> SymbolId
-    ensures { result.0 ≡ operand_of id.0 ((graph_of file.now m).node id.0) }
-{
-    node_at(file, m, id).operand(id)
-}
-
-pub fn operands(file: &[u8], m: Formula, id: SymbolId) -> OperandIds
-    ensures { result ≡ operands_of ((graph_of file.now m).node id.0) }
-{
-    node_at(file, m, id).operands()
-}
-
-pub fn is_operand(file: &[u8], m: Formula, id: SymbolId) -> bool
-    ensures { result ≡ is_leaf ((graph_of file.now m).node id.0) }
-{
-    node_at(file, m, id).is_operand()
 }
