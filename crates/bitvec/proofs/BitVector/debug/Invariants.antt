@@ -4,6 +4,3 @@ use Rattle.bitvec.proofs.BitVector.debug.Given as goal
 
 abbrev pub invariant-loop-i : goal.invariant-loop-i
 invariant-loop-i l = Filling l.initial.x l.i l.x l.bytes
-
-abbrev pub decreases-loop-i : goal.decreases-loop-i
-decreases-loop-i l = l.i

@@ -10,11 +10,11 @@ inverts s x n o e h = rw (h, e, mul_comm) (lifted 6 s 6 o (omega arith))
 
 pub loop-init : goal.loop-init
 unfolding lifts
-loop-init c = (omega arith, refl)
+loop-init c = refl
 
 pub loop-preserved : goal.loop-preserved
 unfolding lifts
-loop-preserved c = (omega arith, rw add-one (cc))
+loop-preserved c = rw add-one (cc)
 
 pub returns : goal.returns
-returns c = (omega arith, inverts _ _ _ (omega arith) (omega arith) c.loop.invariant.1)
+returns c = (omega arith, inverts _ _ _ (omega arith) (omega arith) c.loop.invariant)
