@@ -1,12 +1,11 @@
 -- Laws of an input's width: what fits, what a word cut to the width is, and that "old files mean the same". Assumes nothing.
-use Prim.Native.Nat.{ℕ, ◌*◌, ◌%◌, ◌^◌, ◌≤◌, ◌<◌}
-use mathlib.Core.Path.{◌≡◌, sym, ap, subst, ◌∙◌}
+use Prim.Native.Nat.{◌%◌, ◌^◌, ◌≤◌, ◌<◌}
+use mathlib.Core.Path.{◌≡◌, sym, ◌∙◌}
 use mathlib.Core.Bool.{true}
 use mathlib.Core.Logic.{◌⊎◌, ⊎_elim}
 use native.Mathlib.Omega.{arith}
-use native.Mathlib.Nat.{mod-lt, mod-le, mod-eq_of_lt, one-mul}
+use native.Mathlib.Nat.{mod-lt, mod-le, mod-eq_of_lt}
 use native.Mathlib.Decide.{ℕ_discrete}
-use lib.Dec.{ltb}
 use lib.Pow.{pow_pos, pow_mono, pow-lt}
 use borrow.Author.Tests.{eq-eqb, ne_eqb, lt-ltb}
 use Rattle.symbols.specs.Graph.{Value}
@@ -68,19 +67,3 @@ module _ (p : Port) where
 
       pub cut_wide : (p.width ≡ 0 → ⊥) → 64 ≤ p.width → v ≡ v % room p
       cut_wide ne h = sym (mod-eq_of_lt (wide (wide_bits ne h)))
-
-    -- a shift of 1 below 64
-    shifted : p.width < 64 → (1 * 2 ^ p.width) % 2 ^ 64 ≡ 2 ^ p.width
-    shifted h = ap (λ (x : ℕ). x % 2 ^ 64) (one-mul (2 ^ p.width)) ∙ mod-eq_of_lt (pow-lt h)
-
-    room_shift : (p.width ≡ 0 → ⊥) → p.width < 64 → (1 * 2 ^ p.width) % 2 ^ 64 ≡ room p
-    room_shift ne h = shifted h ∙ ap (λ (k : ℕ). 2 ^ k) (sym (bits_other ne))
-
-    pub fits_narrow : (p.width ≡ 0 → ⊥) → p.width < 64 → ltb v ((1 * 2 ^ p.width) % 2 ^ 64) ≡ fits p v
-    fits_narrow ne h = ap (ltb v) (room_shift ne h)
-
-    pub cut_narrow : (p.width ≡ 0 → ⊥) → p.width < 64 → v % ((1 * 2 ^ p.width) % 2 ^ 64) ≡ v % room p
-    cut_narrow ne h = ap (λ (m : ℕ). v % m) (room_shift ne h)
-
-  pub shift_some : p.width < 64 → 0 < (1 * 2 ^ p.width) % 2 ^ 64
-  shift_some h = subst (λ (x : ℕ). 0 < x) (sym (shifted 0 h)) (pow_pos p.width)

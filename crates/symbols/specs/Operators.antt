@@ -1,5 +1,6 @@
 -- Sides and operators, and the paper's number of each operator. Assumes nothing.
-use Rattle.std.specs.Prelude.{ℕ, Bool, true, false}
+use Rattle.std.specs.Prelude.{ℕ, [], ◌∷◌, Bool, true, false, Option, Some, None, eqb}
+use Rattle.laws.specs.Rows.{row, first}
 use Rattle.bitvec.specs.Word.{bvadd, bvsub, bvmul, bvudiv, bvurem, sltu, equals, is_zero, bvand}
 use Rattle.symbols.specs.declared.OperandSide.{OperandSide}
 use Rattle.symbols.specs.declared.OperandSide.TheVariants.{Lhs, Rhs}
@@ -39,6 +40,22 @@ kind_number Remu = 7
 kind_number Not = 8
 kind_number Equals = 9
 kind_number BitwiseAnd = 10
+
+-- the operator of a kind's number, where it is one's
+unfoldable pub operator_of : ℕ → Option BVOperator
+operator_of n =
+    first
+    (row (eqb n 2) (Some Add)
+    ∷ row (eqb n 3) (Some Sub)
+    ∷ row (eqb n 4) (Some Mul)
+    ∷ row (eqb n 5) (Some Divu)
+    ∷ row (eqb n 6) (Some Sltu)
+    ∷ row (eqb n 7) (Some Remu)
+    ∷ row (eqb n 8) (Some Not)
+    ∷ row (eqb n 9) (Some Equals)
+    ∷ row (eqb n 10) (Some BitwiseAnd)
+    ∷ [])
+    None
 
 -- "Add, Sub, Mul wrap. x/0 = M and x%0 = x, as SMT-LIB. Sltu and Equals give 1 or 0. BitwiseAnd is by bit. Not is 1 for 0, else
 -- 0": of Not's two arguments only the left counts

@@ -1,7 +1,6 @@
 -- Document 01, "Numbers of refusal", 13 of Q-1 and 14 of Q-2: the number and the values of each case. Assumes nothing.
-use Rattle.std.specs.Prelude.{ℕ, List, [], ◌∷◌}
-use Rattle.symbols.specs.declared.Named.{Named}
-use Rattle.symbols.specs.declared.Named.TheVariants as named
+use Rattle.std.specs.Prelude.{ℕ, List, [], ◌∷◌, Option, Some, None}
+use Rattle.symbols.specs.declared.SymbolId.{SymbolId}
 use Rattle.symbols.specs.declared.Refusal.{Refusal}
 use Rattle.symbols.specs.declared.Refusal.TheVariants.{Size, Trailer, Span, Record, Order, Root, FixedRoot, Room, Words, Arity, NoInverse, Dry, Cycle, Short}
 
@@ -39,6 +38,6 @@ values_of (Cycle i) = i.0 ∷ []
 values_of Short = []
 
 -- the values that the code's answer names
-abbrev pub named_of : Named → List ℕ
-named_of named.Nothing = []
-named_of (named.Id i) = i.0 ∷ []
+abbrev pub named_of : Option SymbolId → List ℕ
+named_of None = []
+named_of (Some i) = i.0 ∷ []

@@ -1,16 +1,18 @@
 #![tactic(auto)]
 // mod.rs of the source: the sides, the nine operators, symbols and their ids; and the refusals of document 01 and of Q-1.
 ghost use Rattle.std.specs.Prelude.{◌≡◌, not};
-ghost use Rattle.symbols.specs.Operators.{other_side, is_unary};
+ghost use Rattle.symbols.specs.Operators.{other_side, is_unary, operator_of};
 ghost use Rattle.symbols.specs.Refusals.{number_of, values_of, named_of};
 
 use bitvec::BitVector;
 
+pub mod width;
+
 // A node's id: never a value, as a `BitVector` is never an id.
-#[derive(Clone, Copy)]
+#[derive(Clone, Copy, PartialEq, Eq)]
 pub struct SymbolId(pub u32);
 
-#[derive(Clone, Copy)]
+#[derive(Clone, Copy, PartialEq, Eq)]
 pub enum OperandSide {
     Lhs,
     Rhs,
@@ -27,7 +29,7 @@ impl OperandSide {
     }
 }
 
-#[derive(Clone, Copy)]
+#[derive(Clone, Copy, PartialEq, Eq)]
 pub enum BVOperator {
     Add,
     Sub,
@@ -41,20 +43,29 @@ pub enum BVOperator {
 }
 
 impl BVOperator {
+    // The operator of a kind's number.
+    #[tactic(auto, unfolding(crate::specs::Operators::operator_of, laws::specs::Rows::first))]
+    pub fn from_number(n: u64) -> Option<BVOperator>
+        ensures { result ≡ operator_of n }
+    {
+        match n {
+            2 => Some(BVOperator::Add),
+            3 => Some(BVOperator::Sub),
+            4 => Some(BVOperator::Mul),
+            5 => Some(BVOperator::Divu),
+            6 => Some(BVOperator::Sltu),
+            7 => Some(BVOperator::Remu),
+            8 => Some(BVOperator::Not),
+            9 => Some(BVOperator::Equals),
+            10 => Some(BVOperator::BitwiseAnd),
+            _ => None,
+        }
+    }
+
     pub fn is_unary(self) -> bool
         ensures { result ≡ is_unary self }
     {
-        match self {
-            BVOperator::Add => false,
-            BVOperator::Sub => false,
-            BVOperator::Mul => false,
-            BVOperator::Divu => false,
-            BVOperator::Sltu => false,
-            BVOperator::Remu => false,
-            BVOperator::Not => true,
-            BVOperator::Equals => false,
-            BVOperator::BitwiseAnd => false,
-        }
+        matches!(self, BVOperator::Not)
     }
 
     pub fn is_binary(self) -> bool
@@ -63,8 +74,6 @@ impl BVOperator {
         !self.is_unary()
     }
 }
-
-pub mod width;
 
 // An input: its label, and byte 4 of its record as it stands (specs/Width.antt reads it).
 #[derive(Clone, Copy)]
@@ -82,7 +91,7 @@ pub enum Symbol {
 }
 
 // "Numbers of refusal": specs/Refusals.antt gives each case its number and values.
-#[derive(Clone, Copy)]
+#[derive(Clone, Copy, PartialEq, Eq)]
 pub enum Refusal {
     Size,
     Trailer,
@@ -100,13 +109,6 @@ pub enum Refusal {
     Short,
 }
 
-// The values of a refusal: none, or an id.
-#[derive(Clone, Copy)]
-pub enum Named {
-    Nothing,
-    Id(SymbolId),
-}
-
 impl Refusal {
     pub fn number(self) -> u64
         ensures { result ≡ number_of self }
@@ -115,8 +117,8 @@ impl Refusal {
             Refusal::Size => 1,
             Refusal::Trailer => 2,
             Refusal::Span => 3,
-            Refusal::Record(i) => 4,
-            Refusal::Order(i) => 5,
+            Refusal::Record(_) => 4,
+            Refusal::Order(_) => 5,
             Refusal::Root => 6,
             Refusal::FixedRoot => 7,
             Refusal::Room => 8,
@@ -124,29 +126,20 @@ impl Refusal {
             Refusal::Arity => 10,
             Refusal::NoInverse => 11,
             Refusal::Dry => 12,
-            Refusal::Cycle(i) => 13,
+            Refusal::Cycle(_) => 13,
             Refusal::Short => 14,
         }
     }
 
-    pub fn named(self) -> Named
+    // The id that it names, if any.
+    pub fn named(self) -> Option<SymbolId>
         ensures { named_of result ≡ values_of self }
     {
         match self {
-            Refusal::Size => Named::Nothing,
-            Refusal::Trailer => Named::Nothing,
-            Refusal::Span => Named::Nothing,
-            Refusal::Record(i) => Named::Id(i),
-            Refusal::Order(i) => Named::Id(i),
-            Refusal::Root => Named::Nothing,
-            Refusal::FixedRoot => Named::Nothing,
-            Refusal::Room => Named::Nothing,
-            Refusal::Words => Named::Nothing,
-            Refusal::Arity => Named::Nothing,
-            Refusal::NoInverse => Named::Nothing,
-            Refusal::Dry => Named::Nothing,
-            Refusal::Cycle(i) => Named::Id(i),
-            Refusal::Short => Named::Nothing,
+            Refusal::Record(i) => Some(i),
+            Refusal::Order(i) => Some(i),
+            Refusal::Cycle(i) => Some(i),
+            _ => None,
         }
     }
 }

