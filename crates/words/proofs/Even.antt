@@ -9,11 +9,10 @@ use native.Mathlib.Omega.{arith}
 use lib.ListN.{length, get_or}
 use lib.Dec.{ltb, leb, eqb}
 use borrow.Author.Tests.{ltb-false, leb-true, leb-false, lt-leb, eqb-true}
+use Rattle.std.specs.Prelude.{Some, None}
 use Rattle.laws.specs.Pick.{pick}
 use Rattle.words.specs.declared.WordSource.{WordSource}
-use Rattle.words.specs.declared.Draw.{Draw}
-use Rattle.words.specs.declared.Draw.TheVariants.{Word, Dry}
-use Rattle.words.specs.Words.{Words, Place, from, map_draw, redraw, multiple, discards, even_at, in_range, range_at}
+use Rattle.words.specs.Words.{Words, Place, Draw, from, map_draw, redraw, multiple, discards, even_at, in_range, range_at}
 use Rattle.words.proofs.Laws.{redraw_taken}
 use Rattle.words.proofs.Redraw.{Found, Dropped, redraw_is, redraw_dry}
 use Rattle.words.proofs.Draws.{Small, range_of, range_is}
@@ -39,7 +38,7 @@ module _ (m w : ℕ) (k : w < 2 ^ 64) (h : m ≤ 2 ^ 64) where
   accepted_is = (below_by (ltb m (2 ^ 64)) refl, accepted_by (ltb m (2 ^ 64)))
 
 -- the word of a range that was answered, and those before it
-module _ (ws : Words) (n a b v : ℕ) (s : WordSource) (e : range_at ws n a b ≡ Word v s) where
+module _ (ws : Words) (n a b v : ℕ) (s : WordSource) (e : range_at ws n a b ≡ Some (v, s)) where
   found : (w : ℕ) × Found (discards (b - a + 1)) ws n w s
   found = let r = range_is ws n a b v s e in (r.1.0, (redraw_is (discards (b - a + 1)) ws r.1.0 s n).0 r.1.1)
 
@@ -60,12 +59,12 @@ pub divides_none_discarded : (m w : ℕ) → m ≤ 2 ^ 64 → 2 ^ 64 % m ≡ 0 �
 divides_none_discarded m w l d h = (accepted_is m w h l).1 (omega (arith, div-add-mod' (2 ^ 64) m))
 
 -- a range is dry exactly when every word from n on is discarded
-pub never_dry : (ws : Words) (n a b : ℕ) → a ≤ b → (range_at ws n a b ≡ Dry) ↔ Dropped (discards (b - a + 1)) ws n
+pub never_dry : (ws : Words) (n a b : ℕ) → a ≤ b → (range_at ws n a b ≡ None) ↔ Dropped (discards (b - a + 1)) ws n
 never_dry ws n a b h = (λ e. (redraw_dry _ ws n).0 (dry (even_at ws n (b - a + 1)) (sym (range_of ws n a b h) ∙ e)), λ d. rw (range_of ws n a b h, (redraw_dry _ ws n).1 d))
   where
-    dry : (r : Draw) → map_draw (in_range a b) r ≡ Dry → r ≡ Dry
-    dry (Word w s) e = let z : ◌≡◌ {A = ℕ} 0 1 = cc in absurd (omega arith)
-    dry Dry e = refl
+    dry : (r : Draw) → map_draw (in_range a b) r ≡ None → r ≡ None
+    dry (Some (w, s)) e = let z : ◌≡◌ {A = ℕ} 0 1 = cc in absurd (omega arith)
+    dry None e = refl
 
 -- evenness: "for each v in a..b the words that give v at once are exactly (v − a) + j·m for j below floor(2^64 / m), each once"
 module _ (a b v : ℕ) (lo : a ≤ v) (hi : v ≤ b) (small : b < 2 ^ 64) where
@@ -96,7 +95,7 @@ module _ (a b v : ℕ) (lo : a ≤ v) (hi : v ≤ b) (small : b < 2 ^ 64) where
   in_range_lem w h = in_is w h (eqb (b - a) 0xffff_ffff_ffff_ffff) refl
 
   module _ (ws : Words) (n : Place) (some : n < length ws) (w : ℕ) (is : get_or ws n 0 ≡ w) (k : w < 2 ^ 64) where
-    to : range_at ws n a b ≡ Word v (from (n + 1)) → (j : ℕ) × (j < 2 ^ 64 / m) × (w ≡ word j)
+    to : range_at ws n a b ≡ Some (v, from (n + 1)) → (j : ℕ) × (j < 2 ^ 64 / m) × (w ≡ word j)
     to e =
         let r = range_is ws n a b v (from (n + 1)) e in
         let f = (redraw_is (discards m) ws r.1.0 (from (n + 1)) n).0 r.1.1 in
@@ -106,22 +105,22 @@ module _ (a b v : ℕ) (lo : a ≤ v) (hi : v ≤ b) (small : b < 2 ^ 64) where
         let g : v ≡ a + w % m = r.1.2 ∙ ap (in_range a b) x ∙ in_range_lem w k in
         (w / m, (div-lt_iff_lt-mul {k = m} {x = w} {y = 2 ^ 64 / m} (omega arith)).1 ((accepted_is m w k (omega arith)).0 t), omega (arith, div-add-mod' w m))
 
-    of : (j : ℕ) → j < 2 ^ 64 / m → w ≡ word j → range_at ws n a b ≡ Word v (from (n + 1))
+    of : (j : ℕ) → j < 2 ^ 64 / m → w ≡ word j → range_at ws n a b ≡ Some (v, from (n + 1))
     of j h e =
         let t : discards m w ≡ false = (accepted_is m w k (omega arith)).1 (omega (arith, below j h)) in
         let r : w % m ≡ v - a = ap (λ (x : ℕ). x % m) e ∙ add-mul-mod_self_right (v - a) j m ∙ mod-eq_of_lt (omega arith) in
-        let o : even_at ws n m ≡ Word w (from (n + 1)) = sym (redraw_taken (discards m) ws n some (ap (discards m) is ∙ t)) ∙ ap (λ (x : ℕ). Word x (from (n + 1))) is in
+        let o : even_at ws n m ≡ Some (w, from (n + 1)) = sym (redraw_taken (discards m) ws n some (ap (discards m) is ∙ t)) ∙ ap (λ (x : ℕ). Some (x, from (n + 1))) is in
         let g : in_range a b w ≡ v = in_range_lem w k ∙ omega arith in
-        rw (range_of ws n a b (omega arith), o) (ap (λ (x : ℕ). Word x (from (n + 1))) g)
+        rw (range_of ws n a b (omega arith), o) (ap (λ (x : ℕ). Some (x, from (n + 1))) g)
 
-    pub even : (range_at ws n a b ≡ Word v (from (n + 1))) ↔ ((j : ℕ) × (j < 2 ^ 64 / m) × (w ≡ word j))
+    pub even : (range_at ws n a b ≡ Some (v, from (n + 1))) ↔ ((j : ℕ) × (j < 2 ^ 64 / m) × (w ≡ word j))
     even = (to, λ h. of h.0 h.1 h.2)
 
 -- both occur: of size 3 the last word alone is discarded, and without a next one the range is dry
-pub discarded_occurs : range_at (0xffff_ffff_ffff_ffff ∷ 5 ∷ []) 0 0 2 ≡ Word 2 (from 2)
+pub discarded_occurs : range_at (0xffff_ffff_ffff_ffff ∷ 5 ∷ []) 0 0 2 ≡ Some (2, from 2)
 unfolding range_at redraw
 discarded_occurs = refl
 
-pub dry_occurs : range_at (0xffff_ffff_ffff_ffff ∷ []) 0 0 2 ≡ Dry
+pub dry_occurs : range_at (0xffff_ffff_ffff_ffff ∷ []) 0 0 2 ≡ None
 unfolding range_at redraw
 dry_occurs = refl

@@ -1,24 +1,19 @@
--- `words::WordSource::two` meets its contract: what is left to look at from i answers what the whole answers. Assumes nothing.
-use mathlib.Core.Path.{refl}
-use native.Mathlib.Omega.{arith}
+-- `words::WordSource::two` meets its contract: what the source now answers is what the first one answers. Assumes nothing.
 use borrow.Author.Rules.{rules}
-use Rattle.words.specs.Words.{two_at}
-use Rattle.words.proofs.Laws.{two_past, two_return, two_again, two_over}
+use Rattle.words.proofs.Draws.{draw_forward, two_taken, two_again, two_short, two_over}
 use Rattle.words.proofs.WordSource.two.Goals as goal
 
-pub returns-then-words-i : goal.returns-then-words-i
-returns-then-words-i c = search (two_past, rules)
+pub returns-in_err-low : goal.returns-in_err-low
+returns-in_err-low c = search (two_over, rules)
 
-pub loop-i-init : goal.loop-i-init
-loop-i-init c = (omega arith, refl)
+pub returns-in_err-high : goal.returns-in_err-high
+returns-in_err-high c = search (two_short, rules)
 
-pub returns-then-low-high : goal.returns-then-low-high
-unfolding two_at
-returns-then-low-high c = search (two_return, rules)
+pub returns-then-low-ne0 : goal.returns-then-low-ne0
+returns-then-low-ne0 c = search (two_taken, rules)
 
-pub loop-i-preserved : goal.loop-i-preserved
-loop-i-preserved c = (omega arith, search (two_again, rules))
+pub loop-low-smaller : goal.loop-low-smaller
+loop-low-smaller c = search (draw_forward, rules)
 
-pub returns : goal.returns
-unfolding two_at
-returns c = search (two_over, rules)
+pub loop-low-preserved : goal.loop-low-preserved
+loop-low-preserved c = search (two_again, rules)

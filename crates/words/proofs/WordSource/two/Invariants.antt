@@ -1,13 +1,10 @@
--- `words::WordSource::two` meets its contract: what is left to look at from i answers what the whole answers. Assumes nothing.
-use Prim.Native.Nat.{◌-◌, ◌/◌, ◌≤◌}
-use mathlib.Core.Path.{◌≡◌}
-use lib.ListN.{length}
-use Rattle.words.specs.Words.{two_from}
+-- `words::WordSource::two` meets its contract: what the source now answers is what the first one answers. Assumes nothing.
+use Rattle.std.proofs.Common.{◌≡◌, ◌-◌, length}
+use Rattle.words.specs.Words.{two_at}
 use Rattle.words.proofs.WordSource.two.Given as goal
 
-abbrev pub invariant-loop-i : goal.invariant-loop-i
-invariant-loop-i l =
-    (l.i ≤ length l.words) × (two_from ((length l.words - l.i) / 2) l.words l.i ≡ two_from ((length l.words - l.initial.i) / 2) l.words l.initial.i)
+abbrev pub invariant-loop-low : goal.invariant-loop-low
+invariant-loop-low l = two_at l.words l.source.at ≡ two_at l.words l.fn.self.at
 
-abbrev pub decreases-loop-i : goal.decreases-loop-i
-decreases-loop-i l = length l.words - l.i
+abbrev pub decreases-loop-low : goal.decreases-loop-low
+decreases-loop-low l = length l.words - l.source.at
