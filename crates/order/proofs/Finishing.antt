@@ -23,7 +23,7 @@ use Rattle.order.specs.Finishing.{open_of, ahead, Steady}
 use Rattle.order.specs.declared.walk.Walk.{Walk}
 use Rattle.order.specs.declared.walk.Move.{Move}
 use Rattle.order.specs.declared.walk.Move.TheVariants.{Push, Open, Pop}
-use Rattle.order.specs.declared.walk.Turn.TheVariants.{On}
+use Rattle.std.specs.Prelude.{Some}
 use Rattle.order.proofs.Storing.{zeros_room}
 use Rattle.order.proofs.Turns.{look_new, look_open, look_done}
 
@@ -116,7 +116,7 @@ module _ (g : Graph) (p o s : List ℕ) (w : Walk) (walk : Walking g p o s w) (u
   did a y e = subst (Does g a p o s w walk (w.depth - 1) top u hu) (sym hx ∙ e) (does g a p o s w walk (w.depth - 1) top u hu n hn)
 
   pub steady_push : (j : SymbolId) → x ≡ Push j → (t : List ℕ) (v : Walk) → t ≡ set s w.depth j.0 → v.depth ≡ w.depth + 1 → v.done ≡ w.done
-      → Steady g (ahead g o s w) o t (On v)
+      → Steady g (ahead g o s w) o t (Some v)
   unfolding ahead open_of
   steady_push j e t v ht hd hr = λ a.
       let z = did a (Push j) e in
@@ -124,7 +124,7 @@ module _ (g : Graph) (p o s : List ℕ) (w : Walk) (walk : Walking g p o s w) (u
       let below : open_of t w.depth ≡ open_of s w.depth = ap (λ (l : List ℕ). open_of l w.depth) ht ∙ open_below s w.depth w.depth j.0 (omega arith) in
       rw (d, hr, ht, get_or-set_same s w.depth j.0 0 (omega (arith, z.0, walk.stacked)), below, open_top) (sym z.1)
 
-  pub steady_pop : x ≡ Pop → (r : List ℕ) (v : Walk) → r ≡ set o w.done u → v.depth ≡ w.depth - 1 → v.done ≡ w.done + 1 → Steady g (ahead g o s w) r s (On v)
+  pub steady_pop : x ≡ Pop → (r : List ℕ) (v : Walk) → r ≡ set o w.done u → v.depth ≡ w.depth - 1 → v.done ≡ w.done + 1 → Steady g (ahead g o s w) r s (Some v)
   unfolding ahead
   steady_pop e r v hr hd hc = λ a.
       rw (hd, hc, hr, add-one, take-suc-set o w.done u (omega (arith, walk.tally, walk.ordered)), open_top) (sym (did a Pop e))

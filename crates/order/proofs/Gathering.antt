@@ -16,8 +16,7 @@ use Rattle.visits.specs.Walk.{Ids, finish, visit}
 use Rattle.order.specs.Walking.{Small, Walking, Turned}
 use Rattle.order.specs.Finishing.{open_of, ahead, Steady}
 use Rattle.order.specs.declared.walk.Walk.{Walk}
-use Rattle.order.specs.declared.walk.Turn.{Turn}
-use Rattle.order.specs.declared.walk.Turn.TheVariants.{On, Loop}
+use Rattle.std.specs.Prelude.{Option, Some, None}
 use Rattle.order.proofs.Storing.{stored}
 use Rattle.order.proofs.Moves.{walk_begin, walk_push}
 
@@ -34,8 +33,11 @@ module _ (f : File) (m : Formula) (a : Acyclic (graph_of f m)) where
 
   -- the node alone is open
   module _ (id : SymbolId) (p₀ p q o s t : List ℕ) (v : Walk) (hid : id.0 < m.count) (hp : m.count ≤ length p₀) (ho : m.count ≤ length o) (hs : m.count ≤ length s)
-      (kept : length p ≡ length p₀) (clear : (k : ℕ) → k < m.count → get_or p k 0 ≡ 0)
+      (kept : length p ≡ length p₀) (n : ℕ) (hn : n ≡ m.count) (cleared : (k : ℕ) → k < n → get_or p k 0 ≡ 0)
       (hq : q ≡ set p id.0 1) (ht : t ≡ set s 0 id.0) (vn : v.next ≡ 0) (vd : v.depth ≡ 1) (vc : v.done ≡ 0) where
+    clear : (k : ℕ) → k < m.count → get_or p k 0 ≡ 0
+    clear k h = cleared k (omega arith)
+
     pub gather_begin : Walking g q o t v
     unfolding graph_of
     gather_begin =
@@ -49,12 +51,12 @@ module _ (f : File) (m : Formula) (a : Acyclic (graph_of f m)) where
   gather_ahead id o s t v l hid hs ht vd vc e = e ∙ rw (vd, vc, ht, get_or-set_same s 0 id.0 0 (omega arith))
 
   -- a turn
-  module _ (l : Ids) (o s : List ℕ) (x : Turn) (v : Walk) (e : x ≡ On v) where
+  module _ (l : Ids) (o s : List ℕ) (x : Option Walk) (v : Walk) (e : x ≡ Some v) where
     pub gather_on : (k : Ids) → Steady g k o s x → k ≡ l → ahead g o s v ≡ l
     gather_on k h z = subst (Steady g k o s) e h a ∙ z
 
   -- no node reaches itself
-  pub gather_looped : (p o s : List ℕ) (n : ℕ) (x : Turn) (k l : Ids) → Turned g p o s n x → x ≡ Loop → k ≡ l
+  pub gather_looped : (p o s : List ℕ) (n : ℕ) (x : Option Walk) (k l : Ids) → Turned g p o s n x → x ≡ None → k ≡ l
   gather_looped p o s n x k l h e = let z = subst (Turned g p o s n) e h in absurd (acyclic_free g a z.at z.inside z.loop)
 
   -- nothing is open any more

@@ -1,20 +1,17 @@
 -- The listing as the code meets it: one law for each `return` and each turn of a loop. Assumes nothing.
 use Prim.Native.Nat.{ℕ, ◌+◌, ◌-◌, ◌≤◌, ◌<◌}
-use mathlib.Core.Path.{◌≡◌, sym, ap, subst, ◌∙◌}
+use mathlib.Core.Path.{◌≡◌, sym, subst, ◌∙◌}
 use mathlib.Core.List.{List}
-use mathlib.Core.Bool.{true, false}
+use mathlib.Core.Bool.{true}
 use native.Mathlib.Omega.{arith}
 use lib.ListN.{length, get_or, set}
 use lib.Dec.{ltb}
-use borrow.Author.Tests.{ltb-true, ltb-false}
+use borrow.Author.Tests.{ltb-true, lt-ltb}
 use Rattle.symbols.specs.Graph.{Id, Graph, Depends, Inside}
-use Rattle.symbols.specs.declared.SymbolId.{SymbolId}
-use Rattle.symbols.specs.declared.BVOperator.{BVOperator}
 use Rattle.formula.specs.File.{File}
 use Rattle.formula.specs.Graph.{graph_of, node_is}
 use Rattle.formula.specs.declared.Formula.{Formula}
 use Rattle.formula.specs.declared.Node.{Node}
-use Rattle.formula.specs.declared.Node.TheVariants as node
 use Rattle.order.specs.Spreading.{Listing, listing, meet_one, meet_all, Spreading}
 use Rattle.order.proofs.Turns.{counted}
 use Rattle.order.proofs.Spreads.{one_new, one_old, spread_first, spread_more, spread_all}
@@ -26,26 +23,15 @@ module _ (s t : List ℕ) (n j x : ℕ) (hx : x ≡ get_or s j 0) where
   pub meet_old : (x ≡ 0 → ⊥) → listing s t n ≡ meet_one (listing s t n) j
   meet_old h = one_old (listing s t n) j (λ e. h (hx ∙ e))
 
-module _ (x : Node) (l : Listing) where
-  -- what is listed of a node, by its case
-  by_case : (y : Node) (k : Listing) → x ≡ y → k ≡ meet_all y l → k ≡ meet_all x l
-  by_case y k e h = h ∙ ap (λ (z : Node). meet_all z l) (sym e)
-
-  pub all_one : (a : SymbolId) (k : Listing) → x ≡ node.Unary a → k ≡ meet_one l a.0 → k ≡ meet_all x l
-  all_one a k e h = by_case _ k e h
-
-  pub all_two : (o : BVOperator) (a b : SymbolId) (h k : Listing) → x ≡ node.Binary o a b → h ≡ meet_one l a.0 → k ≡ meet_one h b.0 → k ≡ meet_all x l
-  all_two o a b h k e p q = by_case _ k e (q ∙ ap (λ (z : Listing). meet_one z b.0) p)
-
 module _ (f : File) (m : Formula) (i : Id) where
   abbrev g : Graph
   g = graph_of f m
 
-  pub reach_begin : (s₀ s t : List ℕ) (n : Node) (k : Listing) → k ≡ meet_all n (listing s t 0) → node_is n ≡ g.node i → Inside g → m.count ≤ length s₀
-      → m.count ≤ length t → i < m.count → length s ≡ length s₀ → ((j : ℕ) → j < m.count → get_or s j 0 ≡ 0) → Spreading g i k 0
+  pub reach_begin : (s₀ s t : List ℕ) (n : Node) (k : Listing) (c : ℕ) → k ≡ meet_all n (listing s t 0) → node_is n ≡ g.node i → Inside g → m.count ≤ length s₀
+      → m.count ≤ length t → i < m.count → length s ≡ length s₀ → c ≡ m.count → ((j : ℕ) → j < c → get_or s j 0 ≡ 0) → Spreading g i k 0
   unfolding graph_of
-  reach_begin s₀ s t n k hk hn inside hs ht hi e clear =
-      subst (λ (z : Listing). Spreading g i z 0) (sym hk) (spread_first g i n (listing s t 0) hi hn inside (omega arith) ht clear (omega arith))
+  reach_begin s₀ s t n k c hk hn inside hs ht hi e hc clear =
+      subst (λ (z : Listing). Spreading g i z 0) (sym hk) (spread_first g i n (listing s t 0) hi hn inside (omega arith) ht (λ j h. clear j (omega arith)) (omega arith))
 
   module _ (s t : List ℕ) (n head : ℕ) (spread : Spreading g i (listing s t n) head) where
     pub reach_small : m.count ≤ 4000 → n ≤ 4000
@@ -66,5 +52,5 @@ module _ (f : File) (m : Formula) (i : Id) where
       pub reach_yes : ltb 0 x ≡ true → Depends g i i
       reach_yes e = spread.listed.reached i spread.node (omega (arith, ltb-true 0 x e))
 
-      pub reach_no : n ≤ head → ltb 0 x ≡ false → Depends g i i → ⊥
-      reach_no h e d = omega (arith, ltb-false 0 x e, spread_all g i (listing s t n) head spread h i d)
+      pub reach_all : n ≤ head → Depends g i i → ltb 0 x ≡ true
+      reach_all h d = lt-ltb 0 x (omega (arith, spread_all g i (listing s t n) head spread h i d))

@@ -4,14 +4,12 @@ use mathlib.Core.Path.{◌≡◌, refl, sym, ap, subst, ◌∙◌}
 use mathlib.Core.List.{List}
 use mathlib.Core.Logic.{inl, inr, ⊎_elim}
 use native.Mathlib.Omega.{arith}
-use native.Mathlib.Decide.{ℕ_discrete, dec_lt}
-use lib.ListN.{length, get_or, set, get_or-eq_default}
-use lib.Seq.{set_out}
+use native.Mathlib.Decide.{ℕ_discrete}
+use lib.ListN.{length, get_or, set}
 use borrow.Author.Tests.{eq-eqb, ne_eqb}
 use Rattle.symbols.specs.Graph.{Id, Node, unary, binary, Graph, Operand, Inside}
 use Rattle.symbols.specs.Order.{Arranged, Looped}
 use Rattle.symbols.specs.declared.SymbolId.{SymbolId}
-use Rattle.symbols.specs.declared.BVOperator.{BVOperator}
 use Rattle.formula.specs.File.{File}
 use Rattle.formula.specs.Graph.{graph_of, node_is}
 use Rattle.formula.specs.declared.Formula.{Formula}
@@ -21,27 +19,9 @@ use Rattle.order.specs.Walking.{look_by, move_of, Walking, Small, spent, Turned}
 use Rattle.order.specs.declared.walk.Walk.{Walk}
 use Rattle.order.specs.declared.walk.Move.{Move}
 use Rattle.order.specs.declared.walk.Move.TheVariants.{Push, Open, Pop}
-use Rattle.order.specs.declared.walk.Turn.{Turn}
-use Rattle.order.specs.declared.walk.Turn.TheVariants.{On, Loop}
+use Rattle.std.specs.Prelude.{Option, Some}
 use Rattle.order.proofs.Storing.{stored, zeros_room}
 use Rattle.order.proofs.Moves.{walk_begin, next_below, walk_skip, walk_push, walk_pop, walk_loop, walk_end}
-
--- a cleared prefix, one longer
-pub clear_more : (s t : List ℕ) (i : ℕ) → ((k : ℕ) → k < i → get_or s k 0 ≡ 0) → t ≡ set s i 0 → (k : ℕ) → k < i + 1 → get_or t k 0 ≡ 0
-clear_more s t i h e k l =
-    elim (dec_lt i (length s)) [
-      | yes q ↦ ⊎_elim (λ y. y.1) (λ n. n.1 ∙ h k (omega (arith, n.0))) ((stored s t i 0 q e).look k)
-      | no q ↦
-          let same : t ≡ s = e ∙ set_out s i 0 (omega arith) in
-          ap (λ (x : List ℕ). get_or x k 0) same
-          ∙ elim (ℕ_discrete k i) [
-            | yes z ↦ get_or-eq_default s 0 (omega arith)
-            | no z ↦ h k (omega arith)
-          ]
-    ]
-
-pub clear_end : (s : List ℕ) (i n : ℕ) → ((k : ℕ) → k < i → get_or s k 0 ≡ 0) → n ≤ i → (k : ℕ) → k < n → get_or s k 0 ≡ 0
-clear_end s i n h e k l = h k (omega arith)
 
 -- the match on a mark
 module _ (k : ℕ) (j : SymbolId) (rest : Move) where
@@ -85,15 +65,6 @@ says (node.Binary o a b) p =
     (λ z. subst (λ (x : ℕ). 2 ≤ get_or p x 0) (sym z) k)
     e))
 
-pub move_one : (n : code.Node) (p : List ℕ) (a : SymbolId) (k : ℕ) (r : Move) → n ≡ node.Unary a → k ≡ get_or p a.0 0 → r ≡ look_by k a Pop → r ≡ move_of n p
-move_one n p a k r e hk h = h ∙ ap (λ (x : ℕ). look_by x a Pop) hk ∙ ap (λ (x : code.Node). move_of x p) (sym e)
-
-pub move_two : (n : code.Node) (p : List ℕ) (o : BVOperator) (a b : SymbolId) (k l : ℕ) (z r : Move) → n ≡ node.Binary o a b → l ≡ get_or p b.0 0
-    → z ≡ look_by l b Pop → k ≡ get_or p a.0 0 → r ≡ look_by k a z → r ≡ move_of n p
-move_two n p o a b k l z r e hl hz hk h =
-    h ∙ ap (λ (x : ℕ). look_by x a z) hk ∙ ap (λ (x : Move). look_by (get_or p a.0 0) a x) (hz ∙ ap (λ (x : ℕ). look_by x b Pop) hl)
-    ∙ ap (λ (x : code.Node). move_of x p) (sym e)
-
 pub counted : (f : File) (m : Formula) → (graph_of f m).count ≡ m.count
 unfolding graph_of
 counted f m = refl
@@ -102,10 +73,10 @@ module _ (f : File) (m : Formula) where
   abbrev g : Graph
   g = graph_of f m
 
-  pub turn_begin : (p₀ p o s : List ℕ) (w : Walk) → Inside g → m.count ≤ length p₀ → m.count ≤ length o → m.count ≤ length s → length p ≡ length p₀
-      → ((k : ℕ) → k < m.count → get_or p k 0 ≡ 0) → w.next ≡ 0 → w.depth ≡ 0 → w.done ≡ 0 → Walking g p o s w
+  pub turn_begin : (p₀ p o s : List ℕ) (n : ℕ) (w : Walk) → Inside g → m.count ≤ length p₀ → m.count ≤ length o → m.count ≤ length s → length p ≡ length p₀
+      → n ≡ m.count → ((k : ℕ) → k < n → get_or p k 0 ≡ 0) → w.next ≡ 0 → w.depth ≡ 0 → w.done ≡ 0 → Walking g p o s w
   unfolding graph_of
-  turn_begin p₀ p o s w inside hp ho hs e clear = walk_begin g p o s w inside (omega arith) ho hs clear
+  turn_begin p₀ p o s n w inside hp ho hs e hn clear = walk_begin g p o s w inside (omega arith) ho hs (λ k h. clear k (omega arith))
 
   module _ (p o s : List ℕ) (w : Walk) (walk : Walking g p o s w) where
     pub turn_small : m.count ≤ 4000 → Small w
@@ -160,11 +131,8 @@ module _ (f : File) (m : Formula) where
         (stored o r w.done u (omega (arith, walk.ordered, walk.tally)) hr)
 
   -- the turn that a step was
-  module _ (p o s : List ℕ) (w : Walk) (x : Turn) (turned : Turned g p o s (spent w + 1) x) where
-    pub turn_looped : x ≡ Loop → Looped g
-    turn_looped e = subst (Turned g p o s (spent w + 1)) e turned
-
-    module _ (v : Walk) (e : x ≡ On v) where
+  module _ (p o s : List ℕ) (w : Walk) (x : Option Walk) (turned : Turned g p o s (spent w + 1) x) where
+    module _ (v : Walk) (e : x ≡ Some v) where
       went : Walking g p o s v × (spent v ≡ spent w + 1)
       went = subst (Turned g p o s (spent w + 1)) e turned
 

@@ -1,5 +1,5 @@
 -- What the walk that arranges a graph keeps true. Assumes nothing.
-use Rattle.std.specs.Prelude.{ℕ, suc, ◌+◌, ◌-◌, ◌*◌, ◌≤◌, ◌<◌, ◌≡◌, List, length, get_or, eqb}
+use Rattle.std.specs.Prelude.{ℕ, suc, ◌+◌, ◌-◌, ◌*◌, ◌≤◌, ◌<◌, ◌≡◌, Option, Some, None, List, length, get_or, eqb}
 use Rattle.laws.specs.Pick.{pick}
 use Rattle.symbols.specs.Graph.{Id, Graph, Operand, Inside}
 use Rattle.symbols.specs.Order.{Looped}
@@ -10,8 +10,6 @@ use Rattle.order.specs.Marks.{zeros, Held}
 use Rattle.order.specs.declared.walk.Walk.{Walk}
 use Rattle.order.specs.declared.walk.Move.{Move}
 use Rattle.order.specs.declared.walk.Move.TheVariants.{Push, Open, Pop}
-use Rattle.order.specs.declared.walk.Turn.{Turn}
-use Rattle.order.specs.declared.walk.Turn.TheVariants.{On, Loop}
 
 abbrev pub look_by : ℕ → SymbolId → Move → Move
 look_by mark j rest = pick (eqb mark 0) (Push j) (pick (eqb mark 1) (Open j) rest)
@@ -55,7 +53,7 @@ pub record Small (w : Walk) : Type 0 where
 abbrev pub spent : Walk → ℕ
 spent w = w.next + w.depth + 2 * w.done
 
--- a turn that was the n-th
-abbrev pub Turned : Graph → List ℕ → List ℕ → List ℕ → ℕ → Turn → Type 0
-Turned g p o s n (On w) = Walking g p o s w × (spent w ≡ n)
-Turned g p o s n Loop = Looped g
+-- a turn that was the n-th; there is none where some node reaches itself
+abbrev pub Turned : Graph → List ℕ → List ℕ → List ℕ → ℕ → Option Walk → Type 0
+Turned g p o s n (Some w) = Walking g p o s w × (spent w ≡ n)
+Turned g p o s n None = Looped g

@@ -5,8 +5,7 @@ ghost use Rattle.std.specs.Prelude.{◌≡◌, ℕ, ◌<◌, length, get_or, set
 pub fn number_at(s: &[u32], at: u32) -> u32
     ensures { result ≡ get_or s.now at 0 }
 {
-    let i = at as usize;
-    if i < s.len() { s[i] } else { 0 }
+    s.get(at as usize).copied().unwrap_or(0)
 }
 
 // Stores a number; past the end, nothing.
@@ -21,11 +20,9 @@ pub fn put(s: &mut [u32], at: u32, v: u32)
 
 // Zeros at the first n places.
 pub fn clear(s: &mut [u32], n: u32)
-    ensures { (length s.new ≡ length s.old) × ((k : ℕ) → k < n → get_or s.new k 0 ≡ 0) }
+    ensures kept { length s.new ≡ length s.old }
+    ensures cleared { (k : ℕ) → k < n → get_or s.new k 0 ≡ 0 }
 {
-    let mut i: u32 = 0;
-    while i < n {
-        put(s, i, 0);
-        i += 1;
-    }
+    let end = s.len().min(n as usize);
+    s[..end].fill(0);
 }

@@ -7,9 +7,11 @@ use formula::Node;
 use symbols::SymbolId;
 
 // Lists a node that is not listed yet. The answer is how many are listed then. (4,001: the second operand comes after the first.)
+#[tactic(auto, using(crate::proofs::Reaching::meet_new, crate::proofs::Reaching::meet_old))]
 fn meet(seen: &mut [u32], todo: &mut [u32], tail: u32, id: SymbolId) -> u32
     requires { tail ≤ 4001 }
-    ensures { (listing seen.new todo.new result ≡ meet_one (listing seen.old todo.old tail) id.0) × (result ≤ tail + 1) }
+    ensures met { listing seen.new todo.new result ≡ meet_one (listing seen.old todo.old tail) id.0 }
+    ensures one_more { result ≤ tail + 1 }
 {
     if number_at(seen, id.0) == 0 {
         put(seen, id.0, 1);
@@ -25,10 +27,9 @@ pub fn meet_operands(n: Node, seen: &mut [u32], todo: &mut [u32], tail: u32) -> 
     ensures { listing seen.new todo.new result ≡ meet_all n (listing seen.old todo.old tail) }
 {
     match n {
-        Node::Constant(v) => tail,
-        Node::Input(l) => tail,
+        Node::Constant(_) | Node::Input(_) => tail,
         Node::Unary(a) => meet(seen, todo, tail, a),
-        Node::Binary(op, a, b) => {
+        Node::Binary(_, a, b) => {
             let more = meet(seen, todo, tail, a);
             meet(seen, todo, more, b)
         }

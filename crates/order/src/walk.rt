@@ -1,12 +1,12 @@
 // The walk that arranges a graph: depth first, with a stack of its own. `place` says 0 of a node not met yet, 1 of an open one,
 // which is on the stack, and r + 2 of one that is done and has place r.
 ghost use Rattle.std.specs.Prelude.{◌≡◌, ◌+◌, ◌-◌, ◌≤◌, ◌<◌, set};
-ghost use Rattle.formula.specs.Graph.{graph_of};
+ghost use Rattle.formula.specs.View.{graph};
 ghost use Rattle.order.specs.Finishing.{ahead, Steady};
 ghost use Rattle.order.specs.Walking.{look_by, move_of, Small, Walking, spent, Turned};
 
 use super::marks::{number_at, put};
-use formula::{Formula, Node, node_at};
+use formula::{FormulaView, Node};
 use symbols::SymbolId;
 
 // The next id to begin at, how many nodes are open, and how many are done.
@@ -25,12 +25,6 @@ pub enum Move {
     Pop,
 }
 
-#[derive(Clone, Copy)]
-pub enum Turn {
-    On(Walk),
-    Loop,
-}
-
 // What an operand with this mark asks for; `rest` where it is done.
 fn look(mark: u32, id: SymbolId, rest: Move) -> Move
     ensures { result ≡ look_by mark id rest }
@@ -46,10 +40,9 @@ fn next_move(n: Node, place: &[u32]) -> Move
     ensures { result ≡ move_of n place.now }
 {
     match n {
-        Node::Constant(v) => Move::Pop,
-        Node::Input(l) => Move::Pop,
+        Node::Constant(_) | Node::Input(_) => Move::Pop,
         Node::Unary(a) => look(number_at(place, a.0), a, Move::Pop),
-        Node::Binary(op, a, b) => {
+        Node::Binary(_, a, b) => {
             let rest = look(number_at(place, b.0), b, Move::Pop);
             look(number_at(place, a.0), a, rest)
         }
@@ -59,81 +52,94 @@ fn next_move(n: Node, place: &[u32]) -> Move
 // The next node is met already.
 fn skip(w: Walk) -> Walk
     requires { Small w }
-    ensures { (result.next ≡ w.next + 1) × (result.depth ≡ w.depth) × (result.done ≡ w.done) }
+    ensures next { result.next ≡ w.next + 1 }
+    ensures depth { result.depth ≡ w.depth }
+    ensures done { result.done ≡ w.done }
 {
     Walk {
         next: w.next + 1,
-        depth: w.depth,
-        done: w.done,
+        ..w
     }
 }
 
 // A node not met yet is opened.
 pub fn push(place: &mut [u32], stack: &mut [u32], w: Walk, id: SymbolId) -> Walk
     requires { Small w }
-    ensures { (place.new ≡ set place.old id.0 1) × (stack.new ≡ set stack.old w.depth id.0) × (result.next ≡ w.next) × (result.depth ≡ w.depth + 1) × (result.done ≡ w.done) }
+    ensures marked { place.new ≡ set place.old id.0 1 }
+    ensures stacked { stack.new ≡ set stack.old w.depth id.0 }
+
+    ensures next { result.next ≡ w.next }
+    ensures depth { result.depth ≡ w.depth + 1 }
+    ensures done { result.done ≡ w.done }
 {
     put(place, id.0, 1);
     put(stack, w.depth, id.0);
     Walk {
-        next: w.next,
         depth: w.depth + 1,
-        done: w.done,
+        ..w
     }
 }
 
 // The open node u gets the next place.
 fn pop(place: &mut [u32], order: &mut [u32], w: Walk, u: u32) -> Walk
-    requires { Small w × (0 < w.depth) }
-    ensures { (place.new ≡ set place.old u (w.done + 2)) × (order.new ≡ set order.old w.done u) × (result.next ≡ w.next) × (result.depth ≡ w.depth - 1) × (result.done ≡ w.done + 1) }
+    requires small { Small w }
+    requires open { 0 < w.depth }
+    ensures placed { place.new ≡ set place.old u (w.done + 2) }
+    ensures ordered { order.new ≡ set order.old w.done u }
+
+    ensures next { result.next ≡ w.next }
+    ensures depth { result.depth ≡ w.depth - 1 }
+    ensures done { result.done ≡ w.done + 1 }
 {
     put(place, u, w.done + 2);
     put(order, w.done, u);
     Walk {
-        next: w.next,
         depth: w.depth - 1,
         done: w.done + 1,
+        ..w
     }
 }
 
-// One turn at the top of the stack. What it leaves to list is what it found to list: `gather` rests on that.
+// One turn at the top of the stack, or nothing where some node reaches itself. What it leaves to list is what it found to list: `gather` rests on that.
 pub fn advance(
-    file: &[u8],
-    m: Formula,
+    formula: &FormulaView,
     place: &mut [u32],
     order: &mut [u32],
     stack: &mut [u32],
     w: Walk,
-) -> Turn
-    requires { Walking (graph_of file.now m) place.old order.old stack.old w × (m.count ≤ 4000) × (0 < w.depth) }
-    ensures turned { Turned (graph_of file.now m) place.new order.new stack.new (spent w + 1) result }
-    ensures steady { Steady (graph_of file.now m) (ahead (graph_of file.now m) order.old stack.old w) order.new stack.new result }
+) -> Option<Walk>
+    requires walking { Walking (graph formula.now) place.old order.old stack.old w }
+    requires few { formula.now.layout.count ≤ 4000 }
+    requires open { 0 < w.depth }
+    ensures turned { Turned (graph formula.now) place.new order.new stack.new (spent w + 1) result }
+    ensures steady { Steady (graph formula.now) (ahead (graph formula.now) order.old stack.old w) order.new stack.new result }
 {
     let u = number_at(stack, w.depth - 1);
-    match next_move(node_at(file, m, SymbolId(u)), place) {
-        Move::Push(id) => Turn::On(push(place, stack, w, id)),
-        Move::Open(id) => Turn::Loop,
-        Move::Pop => Turn::On(pop(place, order, w, u)),
+    match next_move(formula.node(SymbolId(u)), place) {
+        Move::Push(id) => Some(push(place, stack, w, id)),
+        Move::Open(_) => None,
+        Move::Pop => Some(pop(place, order, w, u)),
     }
 }
 
-// One turn of a walk that is not over.
+// One turn of a walk that is not over, or nothing where some node reaches itself.
 pub fn step(
-    file: &[u8],
-    m: Formula,
+    formula: &FormulaView,
     place: &mut [u32],
     order: &mut [u32],
     stack: &mut [u32],
     w: Walk,
-) -> Turn
-    requires { Walking (graph_of file.now m) place.old order.old stack.old w × (m.count ≤ 4000) × (w.done < m.count) }
-    ensures { Turned (graph_of file.now m) place.new order.new stack.new (spent w + 1) result }
+) -> Option<Walk>
+    requires walking { Walking (graph formula.now) place.old order.old stack.old w }
+    requires few { formula.now.layout.count ≤ 4000 }
+    requires left { w.done < formula.now.layout.count }
+    ensures { Turned (graph formula.now) place.new order.new stack.new (spent w + 1) result }
 {
     if 0 < w.depth {
-        return advance(file, m, place, order, stack, w);
+        return advance(formula, place, order, stack, w);
     }
     if number_at(place, w.next) == 0 {
-        return Turn::On(push(place, stack, w, SymbolId(w.next)));
+        return Some(push(place, stack, w, SymbolId(w.next)));
     }
-    Turn::On(skip(w))
+    Some(skip(w))
 }

@@ -1,7 +1,7 @@
 -- `order::reaches_itself` meets its contract. Assumes nothing.
 use native.Mathlib.Omega.{arith}
 use borrow.Author.Rules.{rules}
-use Rattle.order.proofs.Reaching.{reach_begin, reach_small, reach_up, reach_less, reach_more, reach_yes, reach_no}
+use Rattle.order.proofs.Reaching.{reach_begin, reach_small, reach_up, reach_less, reach_more, reach_yes, reach_all}
 use Rattle.order.proofs.reaches_itself.Goals as goal
 
 pub loop-head-init : goal.loop-head-init
@@ -16,5 +16,5 @@ loop-head-smaller c = search (reach_less, rules)
 pub loop-head-preserved : goal.loop-head-preserved
 loop-head-preserved c = (search (reach_more, rules), search (reach_up, rules), search rules, search rules)
 
-pub returns : goal.returns
-returns c = (λ e. search (reach_yes, rules), λ e d. search (reach_no, rules), search rules, search rules)
+pub returns-clause-reaches : goal.returns-clause-reaches
+returns-clause-reaches c = (λ e. search (reach_yes, rules), λ d. search (reach_all, rules))

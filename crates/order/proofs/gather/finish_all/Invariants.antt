@@ -2,18 +2,18 @@
 use Prim.Native.Nat.{◌-◌, ◌*◌}
 use mathlib.Core.Path.{◌≡◌}
 use lib.ListN.{length}
-use Rattle.formula.specs.Graph.{graph_of}
+use Rattle.formula.specs.View.{graph}
 use Rattle.order.specs.Walking.{Walking, spent}
 use Rattle.order.specs.Finishing.{ahead}
 use Rattle.order.proofs.gather.finish_all.Given as goal
 
 abbrev pub invariant-loop-w : goal.invariant-loop-w
 invariant-loop-w l =
-    Walking (graph_of l.file l.m) l.place l.order l.stack l.w
-    × (ahead (graph_of l.file l.m) l.order l.stack l.w ≡ ahead (graph_of l.file l.m) l.initial.order l.initial.stack l.initial.w)
+    Walking (graph l.formula) l.place l.order l.stack l.w
+    × (ahead (graph l.formula) l.order l.stack l.w ≡ ahead (graph l.formula) l.initial.order l.initial.stack l.initial.w)
     × (length l.place ≡ length l.initial.place)
     × (length l.order ≡ length l.initial.order)
     × (length l.stack ≡ length l.initial.stack)
 
 abbrev pub decreases-loop-w : goal.decreases-loop-w
-decreases-loop-w l = 3 * l.m.count - spent l.w
+decreases-loop-w l = 3 * l.formula.layout.count - spent l.w

@@ -8,8 +8,8 @@ use Rattle.order.proofs.walk.advance.Goals as goal
 pub push-requires : goal.push-requires
 push-requires c = search (turn_small, rules)
 
-pub pop-requires : goal.pop-requires
-pop-requires c = search (turn_small, rules)
+pub pop-requires-clause-small : goal.pop-requires-clause-small
+pop-requires-clause-small c = search (turn_small, rules)
 
 pub returns-in-Push-clause-turned : goal.returns-in-Push-clause-turned
 returns-in-Push-clause-turned c = (search (turn_push, rules), omega arith)

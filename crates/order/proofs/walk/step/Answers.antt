@@ -15,4 +15,4 @@ skip-requires c = search (turn_small, rules)
 
 pub returns : goal.returns
 returns c =
-    (turn_skip _ _ _ _ _ _ c.requires.0 c.if-w-gt0.false c.requires.2 _ _ c.number_at.ensures (omega arith) c.skip.ensures.0 c.skip.ensures.1 c.skip.ensures.2, omega arith)
+    (turn_skip _ _ _ _ _ _ c.requires.walking c.if-w-gt0.false c.requires.left _ _ c.number_at.ensures (omega arith) c.skip.ensures.next c.skip.ensures.depth c.skip.ensures.done, omega arith)
