@@ -7,22 +7,15 @@ use std::fs;
 use std::io::Read;
 use std::rt::Files;
 
-// A buffer, of which callers need the length alone. A byte more than a graph file may have shows that it has more.
-pub fn file_room() -> [u8; 65537]
-    ensures { 65537 ≡ length result }
-{
-    [0; 65537]
-}
+// The room that a program lends for the file: a byte more than a graph file may have shows that it has more.
+pub const FILE_ROOM: usize = 65537;
 
 // One read: how many bytes it gave, 0 at the end and where it fails.
 fn read_some<R: Read>(source: &mut R, buffer: &mut [u8]) -> usize
     ensures within { result ≤ length buffer.new }
     ensures bytes { Consumes (R.remaining source.old) (R.remaining source.new) (take result buffer.new) }
 {
-    match source.read(buffer) {
-        Ok(n) => n,
-        Err(_) => 0,
-    }
+    source.read(buffer).unwrap_or(0)
 }
 
 // Reads until the buffer is full, the source ends or a read fails. The count is of the bytes that it put at the start of the buffer,
