@@ -1,8 +1,0 @@
--- `reach::remu_lhs` meets its contract: the table's test, as it stands. Assumes nothing.
-use mathlib.Core.Path.{refl}
-use Rattle.reach.specs.Table.{table_says}
-use Rattle.reach.proofs.remu_lhs.Goals as goal
-
-pub returns : goal.returns
-unfolding table_says
-returns c = refl
