@@ -1,14 +1,19 @@
 -- `assign::wanted` meets its contract. Assumes nothing.
+use mathlib.Core.Path.{refl}
 use native.Mathlib.Omega.{arith}
 use borrow.Author.Rules.{rules}
-use Rattle.assign.proofs.Passes.{wanted_begin, wanted_turn, wanted_end}
+use Rattle.formula.specs.Graph.{graph_of}
+use Rattle.assign.specs.Start.{wanted_up_to, wanted}
+use Rattle.assign.proofs.Passes.{wanted_turn}
 use Rattle.assign.proofs.wanted.Goals as goal
 
 pub loop-i-init : goal.loop-i-init
-loop-i-init c = (omega arith, omega arith, wanted_begin _ _)
+unfolding wanted_up_to
+loop-i-init c = (omega arith, refl)
 
 pub loop-i-preserved : goal.loop-i-preserved
-loop-i-preserved c = (omega arith, omega arith, search (wanted_turn, rules))
+loop-i-preserved c = (omega arith, search (wanted_turn, rules))
 
 pub returns : goal.returns
-returns c = search (wanted_end, rules)
+unfolding wanted graph_of
+returns c = grind arith
