@@ -1,3 +1,2 @@
-pub mod Choosing
 pub mod Inverses
 pub mod Texts
