@@ -1,12 +1,13 @@
 -- Laws of words from bytes, and one law for each `return`. Assumes nothing.
 use Prim.Native.Nat.{ℕ, zero, suc, ◌+◌, ◌-◌, ◌*◌, ◌/◌, ◌≤◌, ◌<◌}
 use mathlib.Core.Path.{◌≡◌, refl, sym, ap, ◌∙◌}
-use mathlib.Core.List.{List, ◌++◌}
+use mathlib.Core.List.{List, [], ◌++◌}
 use native.Mathlib.Nat.{add-zero, add_assoc}
 use native.Mathlib.Numerals.{add-one}
 use native.Mathlib.Omega.{arith}
 use lib.ListN.{length, get_or, take, drop, set, length-append, length-drop}
-use lib.Seq.{get_or-drop, drop-cons, set_at, append_snoc, take_at, take_all}
+use Rattle.std.proofs.lemmas.List.{append-nil, drop_all}
+use lib.Seq.{length-take-le, get_or-drop, drop-cons, set_at, append_snoc, take_at, take_all}
 use Rattle.formula.specs.File.{le32, le64}
 use Rattle.intake.specs.Words.{up_to, words_below, words_of}
 
@@ -14,10 +15,6 @@ pub words_length : (s : List ℕ) (k : ℕ) → length (words_below s k) ≡ k
 unfolding words_below
 words_length s zero = refl
 words_length s (suc k) = length-append (words_below s k) _ ∙ omega (arith, words_length s k)
-
-pub word_is : (s : List ℕ) (low high : ℕ) → low ≡ le32 s 0 → high ≡ le32 s 4 → low + 4294967296 * high ≡ le64 s 0
-unfolding le64
-word_is s low high l h = rw (l, h)
 
 word_drop : (s : List ℕ) (a : ℕ) → le64 (drop a s) 0 ≡ le64 s a
 unfolding le64 le32
@@ -33,15 +30,20 @@ module _ (s o : List ℕ) where
   unfolding words_below
   words_begin = refl
 
-  pub words_more : (i n w : ℕ) (p : List ℕ) → i < n → n ≤ length o → p ≡ words_below s i ++ drop i o → w ≡ le64 (take (length s - 8 * i) (drop (8 * i) s)) 0
+  pub words_more : (i w : ℕ) (p : List ℕ) → i < length o → p ≡ words_below s i ++ drop i o → w ≡ le64 (take (length s - 8 * i) (drop (8 * i) s)) 0
       → set p i w ≡ words_below s (i + 1) ++ drop (i + 1) o
   unfolding words_below
-  words_more i n w p h h' e ew =
-      rw (add-one, e, drop-cons o i 0 (omega arith), ew ∙ word_rest s (8 * i), set_at (words_below s i) (get_or o i 0) (drop (suc i) o) (le64 s (8 * i)) i (words_length s i))
+  words_more i w p h e ew =
+      rw (add-one, e, drop-cons o i 0 h, ew ∙ word_rest s (8 * i), set_at (words_below s i) (get_or o i 0) (drop (suc i) o) (le64 s (8 * i)) i (words_length s i))
       (sym (append_snoc (words_below s i) (le64 s (8 * i)) (drop (suc i) o)))
 
-  pub words_end : (i n : ℕ) (p : List ℕ) → n ≤ i → i ≤ n → p ≡ words_below s i ++ drop i o → p ≡ words_below s n ++ drop n o
-  words_end i n p h h' e = let z : n ≡ i = omega arith in rw z e
+-- the first n places of a buffer are filled
+pub words_end : (s o p : List ℕ) (i n : ℕ) → n ≤ length o → i ≤ length (take n o) → length (take n o) ≤ i → p ≡ words_below s i ++ drop i (take n o)
+    → p ++ drop n o ≡ words_below s n ++ drop n o
+words_end s o p i n h g k e =
+    let whole : i ≡ n = omega (arith, length-take-le n o h) in
+    let none : drop n (take n o) ≡ [] = drop_all n (take n o) (omega arith) in
+    rw (e, whole, none, append-nil)
 
 -- the part of the buffer that was filled
 module _ (s o p : List ℕ) (r : ℕ) (e : p ≡ words_below s r ++ drop r o) where
