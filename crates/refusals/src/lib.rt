@@ -4,15 +4,15 @@ ghost use Rattle.text.specs.Text.{WroteUpTo};
 ghost use Rattle.symbols.specs.Refusals.{number_of, values_of, named_of};
 ghost use Rattle.refusals.specs.Line.{spaced, refusal_text};
 
-use symbols::{Named, Refusal};
+use symbols::{Refusal, SymbolId};
 use text::{put_field, put_text};
 
-fn put_named(out: &mut [u8], at: usize, n: Named) -> usize
-    ensures { WroteUpTo 21 (spaced (named_of n)) at out.old out.new result }
+fn put_named(out: &mut [u8], at: usize, named: Option<SymbolId>) -> usize
+    ensures { WroteUpTo 21 (spaced (named_of named)) at out.old out.new result }
 {
-    match n {
-        Named::Nothing => at,
-        Named::Id(i) => put_field(out, at, b" ", i.0 as u64),
+    match named {
+        Some(id) => put_field(out, at, b" ", id.0 as u64),
+        None => at,
     }
 }
 
