@@ -1,16 +1,12 @@
 -- Document 01, "Reachability, inverse and consistent values": edition one. s is the other operand's value, t the target; Lhs: the
 -- operand sought is left. One clause a row and side, in the paper's order, under its text. Sums, differences, products and quotients are
 -- those of words; in the inverse's rows of Divu, Sltu and Remu none wraps where the table says yes. Assumes nothing.
-use Rattle.std.specs.Prelude.{◌+◌, ◌-◌, ◌*◌, ◌/◌, ◌%◌, ◌^◌, min, Bool, false, not, ◌&&◌, ◌||◌, ltb, eqb}
+use Rattle.std.specs.Prelude.{◌+◌, ◌-◌, ◌*◌, ◌/◌, ◌%◌, ◌^◌, min, Bool, false, not, ◌&&◌, ◌||◌, ltb, eqb, Some, None}
 use Rattle.std.specs.Int.Count.{count_trailing_zeros}
 use Rattle.laws.specs.Pick.{pick}
 use Rattle.bitvec.specs.Word.{M, bvadd, bvsub, bvmul, bvudiv, bvand, bvor, bvnot, bvlshr, ctz}
 use Rattle.bitvec.specs.Inverse.{inverse_of}
-use Rattle.words.specs.Words.{Words, Place, from, draw_at, range_at, not_at, two_at, map_draw}
-use Rattle.words.specs.declared.Draw.{Draw}
-use Rattle.words.specs.declared.Draw.TheVariants.{Word, Dry}
-use Rattle.words.specs.declared.Pair.{Pair}
-use Rattle.words.specs.declared.Pair.TheVariants as pair
+use Rattle.words.specs.Words.{Words, Place, Draw, from, draw_at, range_at, not_at, two_at, map_draw}
 use Rattle.symbols.specs.Graph.{Value, Node, constant, input, unary, binary}
 use Rattle.symbols.specs.declared.OperandSide.{OperandSide}
 use Rattle.symbols.specs.declared.OperandSide.TheVariants.{Lhs, Rhs}
@@ -21,7 +17,7 @@ use Rattle.rules.specs.Rules.{Rules}
 
 -- a value that needs no word
 abbrev pub no_word : Value → Place → Draw
-no_word v n = Word v (from n)
+no_word v n = Some (v, from n)
 
 -- "c is the number of trailing zeros of s; (t>>c) times the inverse of s>>c, or-ed with one word's top c bits (a word is drawn for
 -- c = 0 too). s = t = 0: one word": with s = 0 the table says yes for t = 0 alone
@@ -74,12 +70,7 @@ inverse_at BitwiseAnd d s t ws n = map_draw (λ w. bvor (bvand w (bvnot s)) t) (
 -- "t = 0: words until one ≠ s; else s"
 inverse_at Equals d s t ws n = pick (eqb t 0) (not_at ws n s) (no_word s n)
 -- "10 Arity: a binary rule asked of Not": no row
-inverse_at Not d s t ws n = Dry
-
--- what is made of two words that were drawn
-abbrev pub map_pair : (Value → Value → Value) → Pair → Draw
-map_pair f (pair.Words low high s) = Word (f low high) s
-map_pair f pair.Dry = Dry
+inverse_at Not d s t ws n = None
 
 -- "two words, low first, as r … if r has more trailing zeros than t, shift right to t's number; low 64 bits"
 unfoldable pub mul_consistent : Value → Value → Value → Value
@@ -97,7 +88,7 @@ consistent_at Equals d t ws n = draw_at ws n
 -- "BitwiseAnd word or t."
 consistent_at BitwiseAnd d t ws n = map_draw (λ w. bvor w t) (draw_at ws n)
 -- "Mul: t = 0 gives 0; else two words, low first, as r, redrawn while r = 0"
-consistent_at Mul d t ws n = pick (eqb t 0) (no_word 0 n) (map_pair (mul_consistent t) (two_at ws n))
+consistent_at Mul d t ws n = pick (eqb t 0) (no_word 0 n) (map_draw (λ r. mul_consistent t r.0 r.1) (two_at ws n))
 -- "Divu Lhs: t = 0 or M: 0..M−1; else y·t wrapped, y one word redrawn while 0."
 consistent_at Divu Lhs t ws n = pick (eqb t 0 || eqb t M) (range_at ws n 0 (M - 1)) (map_draw (λ y. bvmul y t) (not_at ws n 0))
 -- "Divu Rhs: t = M: 0..1; t = 0: 1..M (the source panics); else 0..M/t."
@@ -111,7 +102,7 @@ consistent_at Remu Lhs t ws n = pick (eqb t M) (no_word M n) (range_at ws n t M)
 -- "Remu Rhs: t = M: 0; else t+1..M."
 consistent_at Remu Rhs t ws n = pick (eqb t M) (no_word 0 n) (range_at ws n (t + 1) M)
 -- "10 Arity: a binary rule asked of Not": no row
-consistent_at Not d t ws n = Dry
+consistent_at Not d t ws n = None
 
 -- "An operand p is essential when its sibling is an operator q and q's table says no for s = value of p, the node's t, and the side
 -- opposite p": the node's own operator is not asked

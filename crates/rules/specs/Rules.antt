@@ -1,17 +1,12 @@
 -- Document 01, "Choice, round, search": the choice between the inverse and the consistent value. What an edition of the rules decides
 -- is a record, and everything here holds of every edition. Assumes nothing.
-use Rattle.std.specs.Prelude.{Bool, eqb}
+use Rattle.std.specs.Prelude.{Bool, eqb, Some, None}
 use Rattle.laws.specs.Pick.{pick}
-use Rattle.words.specs.Words.{Words, Place, choosing_at}
-use Rattle.words.specs.declared.Draw.{Draw}
-use Rattle.words.specs.declared.Draw.TheVariants.{Word, Dry}
-use Rattle.words.specs.declared.Toss.{Toss}
-use Rattle.words.specs.declared.Toss.TheVariants as toss
+use Rattle.bitvec.specs.declared.BitVector.{BitVector}
+use Rattle.words.specs.Words.{Words, Place, Drawn, Draw, map_draw, choosing_at}
 use Rattle.symbols.specs.Graph.{Value, Node}
 use Rattle.symbols.specs.declared.OperandSide.{OperandSide}
 use Rattle.symbols.specs.declared.BVOperator.{BVOperator}
-use Rattle.rules.specs.declared.Drawn.{Drawn}
-use Rattle.rules.specs.declared.Drawn.TheVariants as drawn
 
 -- What an edition says of an operator and the side sought, with s the other operand's value and t the target: whether the table says
 -- yes, and the two values. `hinders own q d s t`: whether an operand with value s is essential at a node of the operator own, where q
@@ -34,24 +29,19 @@ pub data Got : Type 0 where
   stuck : Place → Got
 
 -- "a draw answers either the words and the source after them, or Dry": it goes on with its value, or is stuck where it began
-abbrev pub after : Draw → Place → (Value → Place → Got) → Got
-after (Word v s) n k = k v s.at
-after Dry n k = stuck n
-
-abbrev pub after_toss : Toss → Place → (Bool → Place → Got) → Got
-after_toss (toss.Fell b s) n k = k b s.at
-after_toss toss.Dry n k = stuck n
+abbrev pub after : {X : Type 0} → Drawn X → Place → (X → Place → Got) → Got
+after (Some (x, s)) n k = k x s.at
+after None n k = stuck n
 
 -- "the inverse, then the choosing word": c is the consistent value
 unfoldable pub invert_at : Rules → BVOperator → OperandSide → Value → Value → Words → Value → Place → Got
 invert_at ρ o d s t ws c n =
-    after (ρ.inverse o d s t ws n) n (λ v a. after_toss (choosing_at ws a) a (λ chosen b. pick chosen (took_inverse v b) (took_consistent c b)))
+    after (ρ.inverse o d s t ws n) n (λ v a. after (choosing_at ws a) a (λ chosen b. pick chosen (took_inverse v b) (took_consistent c b)))
 
 -- "Then the consistent value is drawn; if the table says yes, the inverse, then the choosing word."
 unfoldable pub value_at : Rules → BVOperator → OperandSide → Value → Value → Words → Place → Got
 value_at ρ o d s t ws n = after (ρ.consistent o d t ws n) n (λ c a. pick (ρ.table o d s t) (invert_at ρ o d s t ws c a) (took_consistent c a))
 
 -- the code's answer in these terms
-abbrev pub draw_of : Drawn → Draw
-draw_of (drawn.Value v s) = Word v.0 s
-draw_of drawn.Dry = Dry
+abbrev pub draw_of : Drawn BitVector → Draw
+draw_of = map_draw (λ v. v.0)
