@@ -7,55 +7,18 @@ ghost use Rattle.rules.specs.Rules.{draw_of};
 ghost use Rattle.rules.specs.One.{inverse_at};
 
 use bitvec::BitVector;
-use rules::Drawn;
+use rules::as_value;
+use symbols::BVOperator::*;
+use symbols::OperandSide::*;
 use symbols::{BVOperator, OperandSide};
-use words::{Draw, WordSource};
+use words::{Drawn, WordSource};
 
 pub mod divu;
 pub mod mul;
 pub mod remu;
 pub mod sltu;
 
-// "Lhs t + s; Rhs s − t"
-fn inverse_sub(
-    s: BitVector,
-    t: BitVector,
-    d: OperandSide,
-    words: &[u64],
-    source: WordSource,
-) -> Drawn
-    ensures { draw_of result ≡ inverse_at BVOperator.Sub d s.0 t.0 words.now source.at }
-{
-    match d {
-        OperandSide::Lhs => Drawn::Value(t.add(s), source),
-        OperandSide::Rhs => Drawn::Value(s.sub(t), source),
-    }
-}
-
-// "(word and not s) or t", on either side.
-fn inverse_and(s: BitVector, t: BitVector, words: &[u64], source: WordSource) -> Drawn
-    ensures { (d : OperandSide) → draw_of result ≡ inverse_at BVOperator.BitwiseAnd d s.0 t.0 words.now source.at }
-{
-    let Draw::Word(w, next) = source.draw(words) else {
-        return Drawn::Dry;
-    };
-    Drawn::Value(BitVector(w).bitand(s.not()).bitor(t), next)
-}
-
-// "t = 0: words until one ≠ s; else s", on either side.
-fn inverse_equals(s: BitVector, t: BitVector, words: &[u64], source: WordSource) -> Drawn
-    ensures { (d : OperandSide) → draw_of result ≡ inverse_at BVOperator.Equals d s.0 t.0 words.now source.at }
-{
-    if t.0 != 0 {
-        return Drawn::Value(s, source);
-    }
-    let Draw::Word(w, next) = source.until_not(words, s.0) else {
-        return Drawn::Dry;
-    };
-    Drawn::Value(BitVector(w), next)
-}
-
-// Not has no row.
+#[tactic(auto, unfolding(rules::specs::One::inverse_at))]
 pub fn draw_inverse(
     op: BVOperator,
     s: BitVector,
@@ -63,18 +26,28 @@ pub fn draw_inverse(
     d: OperandSide,
     words: &[u64],
     source: WordSource,
-) -> Drawn
+) -> Drawn<BitVector>
     ensures { draw_of result ≡ inverse_at op d s.0 t.0 words.now source.at }
 {
-    match op {
-        BVOperator::Add => Drawn::Value(t.sub(s), source),
-        BVOperator::Sub => inverse_sub(s, t, d, words, source),
-        BVOperator::Mul => mul::inverse_mul(s, t, words, source),
-        BVOperator::Divu => divu::inverse_divu(s, t, d, words, source),
-        BVOperator::Sltu => sltu::inverse_sltu(s, t, d, words, source),
-        BVOperator::Remu => remu::inverse_remu(s, t, d, words, source),
-        BVOperator::Not => Drawn::Dry,
-        BVOperator::Equals => inverse_equals(s, t, words, source),
-        BVOperator::BitwiseAnd => inverse_and(s, t, words, source),
+    match (op, d) {
+        // "t − s"
+        (Add, _) => Some((t - s, source)),
+        // "Lhs t + s; Rhs s − t"
+        (Sub, Lhs) => Some((t + s, source)),
+        (Sub, Rhs) => Some((s - t, source)),
+        (Mul, _) => mul::inverse_mul(s, t, words, source),
+        (Divu, _) => divu::inverse_divu(s, t, d, words, source),
+        (Sltu, _) => sltu::inverse_sltu(s, t, d, words, source),
+        (Remu, _) => remu::inverse_remu(s, t, d, words, source),
+        // No row.
+        (Not, _) => None,
+        // "t = 0: words until one ≠ s; else s"
+        (Equals, _) if t.0 == 0 => source.until_not(words, s.0).map(as_value),
+        (Equals, _) => Some((s, source)),
+        // "(word and not s) or t"
+        (BitwiseAnd, _) => {
+            let (w, next) = source.draw(words)?;
+            Some((BitVector(w) & !s | t, next))
+        }
     }
 }

@@ -1,19 +1,7 @@
 -- `inverse::draw_inverse` meets its contract. Assumes nothing.
 use borrow.Author.Rules.{rules}
-use Rattle.inverse.proofs.Rows.{row_add, row_mul, row_not, row_equals, row_and}
+use Rattle.inverse.proofs.Rows.{row_mul}
 use Rattle.inverse.proofs.draw_inverse.Goals as goal
 
-pub returns-in-Add : goal.returns-in-Add
-returns-in-Add c = search (row_add, rules)
-
-pub returns-in-Mul : goal.returns-in-Mul
-returns-in-Mul c = search (row_mul, rules)
-
-pub returns-in-Not : goal.returns-in-Not
-returns-in-Not c = search (row_not, rules)
-
-pub returns-in-Equals : goal.returns-in-Equals
-returns-in-Equals c = search (row_equals, rules)
-
-pub returns-in-BitwiseAnd : goal.returns-in-BitwiseAnd
-returns-in-BitwiseAnd c = search (row_and, rules)
+pub returns-in-Mul-default : goal.returns-in-Mul-default
+returns-in-Mul-default c = search (row_mul, rules)
