@@ -1,7 +1,7 @@
 -- The parts of the table joined: one law for each `return`, and what each part lends the next. Assumes nothing.
 use mathlib.Core.Path.{◌≡◌, sym, ap, subst, ◌∙◌}
-use Prim.Native.Nat.{ℕ, ◌-◌, ◌%◌, ◌≤◌}
-use mathlib.Core.List.{List, ◌++◌}
+use Prim.Native.Nat.{◌-◌, ◌%◌, ◌≤◌}
+use mathlib.Core.List.{◌++◌}
 use mathlib.Core.Bool.{false, not, ◌||◌}
 use native.Mathlib.Omega.{arith}
 use lib.ListN.{length}
@@ -9,47 +9,33 @@ use lib.Dec.{ltb, eqb}
 use borrow.Author.Tests.{ltb-false}
 use Rattle.laws.specs.Rows.{first}
 use Rattle.laws.proofs.Rows.{clear_head}
-use Rattle.symbols.specs.Order.{Arranged}
 use Rattle.symbols.proofs.Tests.{or_no}
 use Rattle.symbols.specs.declared.Refusal.{Refusal}
 use Rattle.formula.specs.File.{File, distance_of, formula_of}
 use Rattle.formula.specs.Graph.{graph_of}
 use Rattle.formula.specs.declared.Formula.{Formula}
-use Rattle.checks.specs.Refusals.{bad_span, Rows, head_rows, record_rows, cycle_rows, root_rows, body_rows, accepted, refuse, answer, checks, verdict}
-use Rattle.checks.specs.declared.Finding.{Finding}
-use Rattle.checks.specs.declared.Finding.TheVariants.{Clear, Refuse}
-use Rattle.checks.specs.declared.Checked.TheVariants.{Accepted, Refused}
+use Rattle.checks.specs.Refusals.{Finding, bad_span, head_rows, record_rows, cycle_rows, root_rows, body_rows, accepted, refuse, answer, checks, verdict}
+use Rattle.std.specs.Prelude.{Ok, Err}
 use Rattle.checks.proofs.Scanning.{refuses, head_never, records_never, then_refuse, then_on}
-use Rattle.checks.proofs.Cycles.{cycles_never}
+use Rattle.checks.proofs.Cycles.{cycles_never, clear_inside}
 
 -- the cycles, then the root
-module _ (f : File) (m : Formula) (x : Finding) (hx : x ≡ first (cycle_rows (graph_of f m) m.count 0) Clear) where
-  pub graph_refuse : (r : Refusal) → x ≡ Refuse r → Refuse r ≡ first (cycle_rows (graph_of f m) m.count 0 ++ root_rows f m) Clear
+module _ (f : File) (m : Formula) (x : Finding) (hx : x ≡ first (cycle_rows (graph_of f m) m.count 0) (Ok tt)) where
+  pub graph_refuse : (r : Refusal) → x ≡ Err r → Err r ≡ first (cycle_rows (graph_of f m) m.count 0 ++ root_rows f m) (Ok tt)
   graph_refuse r e = then_refuse _ _ x hx r e
 
-  pub graph_on : (y : Finding) → x ≡ Clear → y ≡ first (root_rows f m) Clear → y ≡ first (cycle_rows (graph_of f m) m.count 0 ++ root_rows f m) Clear
+  pub graph_on : (y : Finding) → x ≡ Ok tt → y ≡ first (root_rows f m) (Ok tt) → y ≡ first (cycle_rows (graph_of f m) m.count 0 ++ root_rows f m) (Ok tt)
   graph_on y e h = then_on _ _ x hx y (cycles_never (graph_of f m) m.count 0) e h
 
-  pub graph_order : (o : List ℕ) → (x ≡ Clear → Arranged (graph_of f m) o) → x ≡ Clear → Arranged (graph_of f m) o
-  graph_order o h e = h e
-
 -- the records, then the graph
-module _ (f : File) (m : Formula) (x : Finding) (hx : x ≡ first (record_rows f m m.count 0) Clear) where
-  pub body_refuse : (r : Refusal) → x ≡ Refuse r → Refuse r ≡ first (body_rows f m) Clear
+module _ (f : File) (m : Formula) (x : Finding) (hx : x ≡ first (record_rows f m m.count 0) (Ok tt)) where
+  pub body_refuse : (r : Refusal) → x ≡ Err r → Err r ≡ first (body_rows f m) (Ok tt)
   unfolding body_rows
   body_refuse r e = then_refuse _ _ x hx r e
 
-  pub body_on : (y : Finding) → x ≡ Clear → y ≡ first (cycle_rows (graph_of f m) m.count 0 ++ root_rows f m) Clear → y ≡ first (body_rows f m) Clear
+  pub body_on : (y : Finding) → x ≡ Ok tt → y ≡ first (cycle_rows (graph_of f m) m.count 0 ++ root_rows f m) (Ok tt) → y ≡ first (body_rows f m) (Ok tt)
   unfolding body_rows
   body_on y e h = then_on _ _ x hx y (records_never f m m.count 0) e h
-
--- the head, then the body
-module _ (f : File) (b : Rows) (x : Finding) (hx : x ≡ first (head_rows f) Clear) where
-  pub rows_refuse : (r : Refusal) → x ≡ Refuse r → Refuse r ≡ first (head_rows f ++ b) Clear
-  rows_refuse r e = then_refuse _ b x hx r e
-
-  pub rows_on : (y : Finding) → x ≡ Clear → y ≡ first b Clear → y ≡ first (head_rows f ++ b) Clear
-  rows_on y e h = then_on _ b x hx y (head_never f) e h
 
 -- a distance of 64,000 is that of 4,000 nodes
 pub span_few : (f : File) → bad_span f ≡ false → (formula_of f).count ≤ 4000
@@ -61,29 +47,44 @@ span_few f e =
     let l = ltb-false 64000 d k.1 in
     omega arith
 
-pub head_few : (f : File) (m : Formula) (x : Finding) → m ≡ formula_of f → x ≡ first (head_rows f) Clear → x ≡ Clear → m.count ≤ 4000
+pub head_few : (f : File) (m : Formula) (x : Finding) → m ≡ formula_of f → x ≡ first (head_rows f) (Ok tt) → x ≡ Ok tt → m.count ≤ 4000
 unfolding head_rows
 head_few f m x hm hx e =
-    let a = clear_head _ _ _ Clear (refuses _) (sym hx ∙ e) in
-    let b = clear_head _ _ _ Clear (refuses _) a.1 in
-    let c = clear_head _ _ _ Clear (refuses _) b.1 in
+    let a = clear_head _ _ _ (Ok tt) (refuses _) (sym hx ∙ e) in
+    let b = clear_head _ _ _ (Ok tt) (refuses _) a.1 in
+    let c = clear_head _ _ _ (Ok tt) (refuses _) b.1 in
     subst (λ (w : Formula). w.count ≤ 4000) (sym hm) (span_few f c.0)
 
--- the whole
-module _ (f : File) (m : Formula) (hm : m ≡ formula_of f) (x : Finding) (hx : x ≡ first (head_rows f ++ body_rows f m) Clear) where
-  whole : answer x m ≡ verdict f
+-- the whole: what the parts find, one after another, is the verdict
+module _ (f : File) (m : Formula) (hm : m ≡ formula_of f) where
+  whole : (x : Finding) → x ≡ first (head_rows f ++ body_rows f m) (Ok tt) → answer x m ≡ verdict f
   unfolding verdict checks
-  whole = ap (λ (z : Finding). answer z m) hx ∙ ap (λ (z : Formula). answer (first (head_rows f ++ body_rows f z) Clear) z) hm
+  whole x hx = ap (λ (z : Finding). answer z m) hx ∙ ap (λ (z : Formula). answer (first (head_rows f ++ body_rows f z) (Ok tt)) z) hm
 
-  pub check_refused : (r : Refusal) → x ≡ Refuse r → refuse r ≡ verdict f
-  check_refused r e = ap (λ (z : Finding). answer z m) (sym e) ∙ whole
+  module _ (h : Finding) (hh : h ≡ first (head_rows f) (Ok tt)) where
+    pub refused_head : (r : Refusal) → h ≡ Err r → refuse r ≡ verdict f
+    refused_head r e = whole (Err r) (then_refuse _ (body_rows f m) h hh r e)
 
-  pub check_accepted : x ≡ Clear → accepted m ≡ verdict f
-  check_accepted e = ap (λ (z : Finding). answer z m) (sym e) ∙ whole
+    module _ (eh : h ≡ Ok tt) (x : Finding) (hx : x ≡ first (record_rows f m m.count 0) (Ok tt)) where
+      on_body : (v : Finding) → v ≡ first (body_rows f m) (Ok tt) → answer v m ≡ verdict f
+      on_body v e = whole v (then_on _ (body_rows f m) h hh v (head_never f) eh e)
 
--- an accepted answer is of the formula at hand
-pub accepted_order : (f : File) (m : Formula) (x : Finding) (o : List ℕ) → (x ≡ Clear → Arranged (graph_of f m) o) → x ≡ Clear → (w : Formula) → Accepted m ≡ Accepted w → Arranged (graph_of f w) o
-accepted_order f m x o h q w e = let z : m ≡ w = cc in subst (λ (v : Formula). Arranged (graph_of f v) o) z (h q)
+      pub refused_records : (r : Refusal) → x ≡ Err r → refuse r ≡ verdict f
+      refused_records r e = on_body (Err r) (body_refuse f m x hx r e)
 
-pub refused_order : (r : Refusal) (w : Formula) → Refused r ≡ Accepted w → ⊥
-refused_order r w e = let z : ◌≡◌ {A = ℕ} 0 1 = cc in absurd (omega arith)
+      module _ (ex : x ≡ Ok tt) (y : Finding) (hy : y ≡ first (cycle_rows (graph_of f m) m.count 0) (Ok tt)) where
+        pub refused_cycles : (r : Refusal) → y ≡ Err r → refuse r ≡ verdict f
+        refused_cycles r e = on_body (Err r) (body_on f m x hx (Err r) ex (graph_refuse f m y hy r e))
+
+        module _ (ey : y ≡ Ok tt) (z : Finding) (hz : z ≡ first (root_rows f m) (Ok tt)) where
+          on_root : answer z m ≡ verdict f
+          on_root = on_body z (body_on f m x hx z ex (graph_on f m y hy z ey hz))
+
+          pub refused_root : (r : Refusal) → z ≡ Err r → refuse r ≡ verdict f
+          refused_root r e = ap (λ (v : Finding). answer v m) (sym e) ∙ on_root
+
+          pub accepted_file : z ≡ Ok tt → accepted m ≡ verdict f
+          accepted_file e = ap (λ (v : Finding). answer v m) (sym e) ∙ on_root
+
+-- what each return of the whole check rests on, and what each part lends the next
+pub ruleset parts = (clear_inside, head_few, refused_head, refused_records, refused_cycles, refused_root, accepted_file)
