@@ -15,7 +15,7 @@ use Rattle.formula.specs.File.{File, Record, Place, byte, distance_of, version_o
 use Rattle.checks.specs.Refusals.{bad_size, bad_trailer, bad_span, unknown, clean, wide, bad_record, outside, fixed}
 use Rattle.formula.specs.Graph.{kind_of, node_of}
 use Rattle.formula.specs.declared.Kind.{Kind}
-use Rattle.formula.specs.declared.Kind.TheVariants.{Constant, Input, Unary, Binary, Unknown}
+use Rattle.std.specs.Prelude.{Option, Some, None}
 use Rattle.filelaws.specs.Faults.{TooWide, OutOfOrder, FixedElsewhere}
 
 differs : (a b : ℕ) → (not (eqb a b) ≡ true) ↔ (a ≡ b → ⊥)
@@ -88,30 +88,27 @@ fixed_means (constant v) = (
   λ e. record { value = v; is = refl; other = (differs v 1).0 e },
   λ h. (differs v 1).1 (λ e. h.other (let x : v ≡ h.value = constant_value v h.value h.is in sym x ∙ e)),
 )
-fixed_means (input p) = (λ e. absurd (true≢false (sym e)), λ h. let i = h.is in let z : ◌≡◌ {A = ℕ} 0 1 = cc in absurd (omega arith))
-fixed_means (unary a) = (λ e. absurd (true≢false (sym e)), λ h. let i = h.is in let z : ◌≡◌ {A = ℕ} 0 1 = cc in absurd (omega arith))
-fixed_means (binary o a b) = (λ e. absurd (true≢false (sym e)), λ h. let i = h.is in let z : ◌≡◌ {A = ℕ} 0 1 = cc in absurd (omega arith))
+fixed_means (input p) = (λ e. absurd (true≢false (sym e)), λ h. cc h.is)
+fixed_means (unary a) = (λ e. absurd (true≢false (sym e)), λ h. cc h.is)
+fixed_means (binary o a b) = (λ e. absurd (true≢false (sym e)), λ h. cc h.is)
 
-unknown_means : (k : Kind) → (unknown k ≡ true) ↔ (k ≡ Unknown)
-unknown_means Constant = (λ e. absurd (true≢false (sym e)), λ e. ap unknown e)
-unknown_means Input = (λ e. absurd (true≢false (sym e)), λ e. ap unknown e)
-unknown_means Unary = (λ e. absurd (true≢false (sym e)), λ e. ap unknown e)
-unknown_means (Binary o) = (λ e. absurd (true≢false (sym e)), λ e. ap unknown e)
-unknown_means Unknown = (λ e. refl, λ e. refl)
+unknown_means : (k : Option Kind) → (unknown k ≡ true) ↔ (k ≡ None)
+unknown_means (Some k) = (λ e. absurd (true≢false (sym e)), λ e. ap unknown e)
+unknown_means None = (λ e. refl, λ e. refl)
 
 input_port : (p q : Port) → input p ≡ input q → p ≡ q
 input_port p q e = cc
 
 -- "a width above 64"
 pub wide_means : (n : Node) → (wide n ≡ true) ↔ TooWide n
-wide_means (constant v) = (λ e. absurd (true≢false (sym e)), λ h. let i = h.is in let z : ◌≡◌ {A = ℕ} 0 1 = cc in absurd (omega arith))
+wide_means (constant v) = (λ e. absurd (true≢false (sym e)), λ h. cc h.is)
 wide_means (input p) = (
   λ e. record { port = p; is = refl; above = ltb-true 64 p.width e },
   λ h. lt-ltb 64 p.width (subst (λ (q : Port). 64 < q.width) (sym (input_port p h.port h.is)) h.above),
 )
-wide_means (unary a) = (λ e. absurd (true≢false (sym e)), λ h. let i = h.is in let z : ◌≡◌ {A = ℕ} 0 1 = cc in absurd (omega arith))
-wide_means (binary o a b) = (λ e. absurd (true≢false (sym e)), λ h. let i = h.is in let z : ◌≡◌ {A = ℕ} 0 1 = cc in absurd (omega arith))
+wide_means (unary a) = (λ e. absurd (true≢false (sym e)), λ h. cc h.is)
+wide_means (binary o a b) = (λ e. absurd (true≢false (sym e)), λ h. cc h.is)
 
 -- "unknown kind or a non-zero byte that must be zero"; Q-3: "4 also for a width above 64"
-pub record_means : (r : Record) → (bad_record r ≡ true) ↔ (((kind_of r ≡ Unknown) ⊎ (clean (kind_of r) r ≡ false)) ⊎ TooWide (node_of r))
+pub record_means : (r : Record) → (bad_record r ≡ true) ↔ (((kind_of r ≡ None) ⊎ (clean (kind_of r) r ≡ false)) ⊎ TooWide (node_of r))
 record_means r = either _ _ (either _ _ (unknown_means (kind_of r)) (not-true (clean (kind_of r) r), ap not)) (wide_means (node_of r))

@@ -19,10 +19,11 @@ use Rattle.formula.specs.declared.Formula.{Formula}
 use Rattle.formula.specs.declared.Node as node
 use Rattle.formula.specs.declared.Node.TheVariants as variants
 use Rattle.formula.specs.declared.Kind.{Kind}
-use Rattle.formula.specs.declared.Kind.TheVariants.{Constant, Input, Unary, Binary, Unknown}
+use Rattle.formula.specs.declared.Kind.TheVariants.{Constant, Input, Unary, Binary}
+use Rattle.std.specs.Prelude.{Option, Some, None}
 
 -- the kind of an operator's number is that operator's
-pub operator_kind : (o : BVOperator) → kind_no (kind_number o) ≡ pick (is_unary o) Unary (Binary o)
+pub operator_kind : (o : BVOperator) → kind_no (kind_number o) ≡ Some (pick (is_unary o) Unary (Binary o))
 unfolding kind_no
 operator_kind Add = refl
 operator_kind Sub = refl
@@ -35,12 +36,12 @@ operator_kind Equals = refl
 operator_kind BitwiseAnd = refl
 
 -- no kind is a Not of two operands
-abbrev Two : Kind → Type 0
-Two Constant = Unit {0}
-Two Input = Unit {0}
-Two Unary = Unit {0}
-Two (Binary o) = is_unary o ≡ false
-Two Unknown = Unit {0}
+abbrev Two : Option Kind → Type 0
+Two (Some Constant) = Unit {0}
+Two (Some Input) = Unit {0}
+Two (Some Unary) = Unit {0}
+Two (Some (Binary o)) = is_unary o ≡ false
+Two None = Unit {0}
 
 two : (b : ℕ) → Two (kind_no b)
 unfolding kind_no
@@ -57,12 +58,12 @@ two (suc (suc (suc (suc (suc (suc (suc (suc (suc zero))))))))) = refl
 two (suc (suc (suc (suc (suc (suc (suc (suc (suc (suc zero)))))))))) = refl
 two (suc (suc (suc (suc (suc (suc (suc (suc (suc (suc (suc b))))))))))) = tt
 
-from_kind : (k : Kind) (r : Record) (o : BVOperator) (a b : Id) → Two k → node_by k r ≡ binary o a b → is_unary o ≡ false
-from_kind Constant r o a b t e = let z : ◌≡◌ {A = ℕ} 0 1 = cc in absurd (omega arith)
-from_kind Input r o a b t e = let z : ◌≡◌ {A = ℕ} 0 1 = cc in absurd (omega arith)
-from_kind Unary r o a b t e = let z : ◌≡◌ {A = ℕ} 0 1 = cc in absurd (omega arith)
-from_kind (Binary q) r o a b t e = let z : q ≡ o = cc in ap is_unary (sym z) ∙ t
-from_kind Unknown r o a b t e = let z : ◌≡◌ {A = ℕ} 0 1 = cc in absurd (omega arith)
+from_kind : (k : Option Kind) (r : Record) (o : BVOperator) (a b : Id) → Two k → node_by k r ≡ binary o a b → is_unary o ≡ false
+from_kind (Some Constant) r o a b t e = cc
+from_kind (Some Input) r o a b t e = cc
+from_kind (Some Unary) r o a b t e = cc
+from_kind (Some (Binary q)) r o a b t e = let z : q ≡ o = cc in ap is_unary (sym z) ∙ t
+from_kind None r o a b t e = cc
 
 -- a file's node of two operands is no Not
 pub binary_of_two : (f : File) (m : Formula) (i : Id) (o : BVOperator) (a b : Id) → (graph_of f m).node i ≡ binary o a b → is_unary o ≡ false
@@ -100,12 +101,12 @@ pub le64_small : (s : List ℕ) (a : ℕ) → Bytes s → le64 s a < 2 ^ 64
 unfolding le64
 le64_small s a h = omega (arith, le32_small s a h, le32_small s (a + 4) h)
 
-small_kind : (k : Kind) (r : Record) (v : Value) → Bytes r → node_by k r ≡ constant v → v < 2 ^ 64
-small_kind Constant r v h e = let z : le64 r 8 ≡ v = cc in omega (arith, le64_small r 8 h)
-small_kind Input r v h e = let z : ◌≡◌ {A = ℕ} 0 1 = cc in absurd (omega arith)
-small_kind Unary r v h e = let z : ◌≡◌ {A = ℕ} 0 1 = cc in absurd (omega arith)
-small_kind (Binary o) r v h e = let z : ◌≡◌ {A = ℕ} 0 1 = cc in absurd (omega arith)
-small_kind Unknown r v h e = let z : ◌≡◌ {A = ℕ} 0 v = cc in omega arith
+small_kind : (k : Option Kind) (r : Record) (v : Value) → Bytes r → node_by k r ≡ constant v → v < 2 ^ 64
+small_kind (Some Constant) r v h e = let z : le64 r 8 ≡ v = cc in omega (arith, le64_small r 8 h)
+small_kind (Some Input) r v h e = cc
+small_kind (Some Unary) r v h e = cc
+small_kind (Some (Binary o)) r v h e = cc
+small_kind None r v h e = let z : ◌≡◌ {A = ℕ} 0 v = cc in omega arith
 
 -- a constant of a file of bytes is a word of 64 bits
 pub constant_small : (f : File) (m : Formula) (i : Id) (v : Value) → Bytes f → (graph_of f m).node i ≡ constant v → v < 2 ^ 64

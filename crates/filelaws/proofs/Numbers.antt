@@ -22,7 +22,7 @@ use Rattle.formula.specs.Graph.{node_of, graph_of}
 use Rattle.checks.specs.Refusals.{bad_size, bad_trailer, bad_span, bad_record, outside, fixed, Rows, head_rows, rows_of, record_rows, cycle_rows, root_rows, body_rows, checks, accepted, refused, verdict}
 use Rattle.checks.proofs.Cycles.{inside_means}
 use Rattle.formula.specs.declared.Formula.{Formula}
-use Rattle.checks.specs.declared.Finding.TheVariants.{Clear, Refuse}
+use Rattle.std.specs.Prelude.{Ok, Err}
 use Rattle.filelaws.specs.Fine.{Headed, Until, Free, BeforeRoot, Cycled}
 use Rattle.filelaws.proofs.Exactly.{graph_rows, finding_number, refused_exactly, accepted_exactly}
 use Rattle.filelaws.proofs.Places.{place_of, given_place, records_length, cycles_length, checks_length, row_exactly}
@@ -83,17 +83,17 @@ module _ (f : File) (m : Formula) where
       ap (λ (w : ℕ). holds_at (two w) 1) y ∙ ap (holds_at (two x)) z
   holds_record (suc k) i x q (suc (suc p)) e h b = holds_record k (i + 1) x q p (omega arith) h (omega arith)
 
-  gives_record : (k i x q p : ℕ) → p + 2 * i ≡ 2 * x + q → q < 2 → x < i + k → gives_at (record_rows f m k i) Clear p ≡ gives_at (two x) Clear q
+  gives_record : (k i x q p : ℕ) → p + 2 * i ≡ 2 * x + q → q < 2 → x < i + k → gives_at (record_rows f m k i) (Ok tt) p ≡ gives_at (two x) (Ok tt) q
   unfolding record_rows rows_of
   gives_record zero i x q p e h b = absurd (omega arith)
   gives_record (suc k) i x q zero e h b =
       let y : i ≡ x = omega arith in
       let z : 0 ≡ q = omega arith in
-      ap (λ (w : ℕ). gives_at (two w) Clear 0) y ∙ ap (gives_at (two x) Clear) z
+      ap (λ (w : ℕ). gives_at (two w) (Ok tt) 0) y ∙ ap (gives_at (two x) (Ok tt)) z
   gives_record (suc k) i x q (suc zero) e h b =
       let y : i ≡ x = omega arith in
       let z : 1 ≡ q = omega arith in
-      ap (λ (w : ℕ). gives_at (two w) Clear 1) y ∙ ap (gives_at (two x) Clear) z
+      ap (λ (w : ℕ). gives_at (two w) (Ok tt) 1) y ∙ ap (gives_at (two x) (Ok tt)) z
   gives_record (suc k) i x q (suc (suc p)) e h b = gives_record k (i + 1) x q p (omega arith) h (omega arith)
 
 -- a row of each node, upward: that of node x stands at x
@@ -104,10 +104,10 @@ module _ (g : Graph) where
   holds_cycle (suc k) i x zero e b = let y : i ≡ x = omega arith in ap (λ (w : ℕ). reaches g w w) y
   holds_cycle (suc k) i x (suc p) e b = holds_cycle k (i + 1) x p (omega arith) (omega arith)
 
-  gives_cycle : (k i x p : ℕ) → p + i ≡ x → x < i + k → gives_at (cycle_rows g k i) Clear p ≡ Refuse (Cycle record { 0 = x })
+  gives_cycle : (k i x p : ℕ) → p + i ≡ x → x < i + k → gives_at (cycle_rows g k i) (Ok tt) p ≡ Err (Cycle record { 0 = x })
   unfolding cycle_rows
   gives_cycle zero i x p e b = absurd (omega arith)
-  gives_cycle (suc k) i x zero e b = let y : i ≡ x = omega arith in ap (λ (w : ℕ). Refuse (Cycle record { 0 = w })) y
+  gives_cycle (suc k) i x zero e b = let y : i ≡ x = omega arith in ap (λ (w : ℕ). Err (Cycle record { 0 = w })) y
   gives_cycle (suc k) i x (suc p) e b = gives_cycle k (i + 1) x p (omega arith) (omega arith)
 
 -- the whole table: three rows of the head, the records', the nodes', the root's two
@@ -129,17 +129,17 @@ module _ (f : File) where
     unfolding checks head_rows body_rows
     holds_body = let l = records_length f m n 0 in holds_left (record_rows f m n 0) (graph_rows f m) (2 * x + q) (omega arith) ∙ holds_record f m n 0 x q (2 * x + q) (omega arith) h (omega arith)
 
-    gives_body : gives_at (checks f) Clear (after (2 * x + q)) ≡ gives_at (rows_of (record_at f m x) n x) Clear q
+    gives_body : gives_at (checks f) (Ok tt) (after (2 * x + q)) ≡ gives_at (rows_of (record_at f m x) n x) (Ok tt) q
     unfolding checks head_rows body_rows
-    gives_body = let l = records_length f m n 0 in gives_left (record_rows f m n 0) (graph_rows f m) Clear (2 * x + q) (omega arith) ∙ gives_record f m n 0 x q (2 * x + q) (omega arith) h (omega arith)
+    gives_body = let l = records_length f m n 0 in gives_left (record_rows f m n 0) (graph_rows f m) (Ok tt) (2 * x + q) (omega arith) ∙ gives_record f m n 0 x q (2 * x + q) (omega arith) h (omega arith)
 
   holds_graph : (q : ℕ) → holds_at (checks f) (after (2 * n + q)) ≡ holds_at (graph_rows f m) q
   unfolding checks head_rows body_rows
   holds_graph q = let l = records_length f m n 0 in holds_right (record_rows f m n 0) (graph_rows f m) (2 * n + q) q (omega arith)
 
-  gives_graph : (q : ℕ) → gives_at (checks f) Clear (after (2 * n + q)) ≡ gives_at (graph_rows f m) Clear q
+  gives_graph : (q : ℕ) → gives_at (checks f) (Ok tt) (after (2 * n + q)) ≡ gives_at (graph_rows f m) (Ok tt) q
   unfolding checks head_rows body_rows
-  gives_graph q = let l = records_length f m n 0 in gives_right (record_rows f m n 0) (graph_rows f m) Clear (2 * n + q) q (omega arith)
+  gives_graph q = let l = records_length f m n 0 in gives_right (record_rows f m n 0) (graph_rows f m) (Ok tt) (2 * n + q) q (omega arith)
 
   holds_root : (q : ℕ) → holds_at (checks f) (after (3 * n + q)) ≡ holds_at (root_rows f m) q
   holds_root q =
@@ -147,11 +147,11 @@ module _ (f : File) where
       let z : after (3 * n + q) ≡ after (2 * n + (n + q)) = omega arith in
       ap (holds_at (checks f)) z ∙ holds_graph (n + q) ∙ holds_right (cycle_rows g n 0) (root_rows f m) (n + q) q (omega arith)
 
-  gives_root : (q : ℕ) → gives_at (checks f) Clear (after (3 * n + q)) ≡ gives_at (root_rows f m) Clear q
+  gives_root : (q : ℕ) → gives_at (checks f) (Ok tt) (after (3 * n + q)) ≡ gives_at (root_rows f m) (Ok tt) q
   gives_root q =
       let l = cycles_length g n 0 in
       let z : after (3 * n + q) ≡ after (2 * n + (n + q)) = omega arith in
-      ap (gives_at (checks f) Clear) z ∙ gives_graph (n + q) ∙ gives_right (cycle_rows g n 0) (root_rows f m) Clear (n + q) q (omega arith)
+      ap (gives_at (checks f) (Ok tt)) z ∙ gives_graph (n + q) ∙ gives_right (cycle_rows g n 0) (root_rows f m) (Ok tt) (n + q) q (omega arith)
 
   four : (x : ℕ) → x < n → holds_at (checks f) (after (2 * x + 0)) ≡ bad_record (record_at f m x)
   unfolding rows_of
@@ -166,10 +166,10 @@ module _ (f : File) where
       let l = cycles_length g n 0 in
       holds_graph x ∙ holds_left (cycle_rows g n 0) (root_rows f m) x (omega arith) ∙ holds_cycle g n 0 x x (omega arith) (omega arith)
 
-  gives_thirteen : (x : ℕ) → x < n → gives_at (checks f) Clear (after (2 * n + x)) ≡ Refuse (Cycle record { 0 = x })
+  gives_thirteen : (x : ℕ) → x < n → gives_at (checks f) (Ok tt) (after (2 * n + x)) ≡ Err (Cycle record { 0 = x })
   gives_thirteen x b =
       let l = cycles_length g n 0 in
-      gives_graph x ∙ gives_left (cycle_rows g n 0) (root_rows f m) Clear x (omega arith) ∙ gives_cycle g n 0 x x (omega arith) (omega arith)
+      gives_graph x ∙ gives_left (cycle_rows g n 0) (root_rows f m) (Ok tt) x (omega arith) ∙ gives_cycle g n 0 x x (omega arith) (omega arith)
 
   six : holds_at (checks f) (after (3 * n + 0)) ≡ leb n m.root.0
   unfolding root_rows
@@ -290,13 +290,13 @@ module _ (f : File) where
       )
 
   -- what the rows after the records' give is 6, 7 or 13
-  root_number : (q : ℕ) → q < 2 → finding_number (gives_at (checks f) Clear (after (3 * n + q))) ≡ 6 + q
+  root_number : (q : ℕ) → q < 2 → finding_number (gives_at (checks f) (Ok tt) (after (3 * n + q))) ≡ 6 + q
   unfolding root_rows finding_number
   root_number zero b = ap finding_number (gives_root 0)
   root_number (suc zero) b = ap finding_number (gives_root 1)
   root_number (suc (suc q)) b = absurd (omega arith)
 
-  late_number : (i : ℕ) → after (2 * n) ≤ i → i < length (checks f) → 6 ≤ finding_number (gives_at (checks f) Clear i)
+  late_number : (i : ℕ) → after (2 * n) ≤ i → i < length (checks f) → 6 ≤ finding_number (gives_at (checks f) (Ok tt) i)
   unfolding finding_number
   late_number i a b =
       let l = checks_length f in
@@ -304,12 +304,12 @@ module _ (f : File) where
         | yes p ↦
             let q = i - after (3 * n) in
             let z : i ≡ after (3 * n + q) = omega arith in
-            let e = ap (λ (w : ℕ). finding_number (gives_at (checks f) Clear w)) z ∙ root_number q (omega arith) in
+            let e = ap (λ (w : ℕ). finding_number (gives_at (checks f) (Ok tt) w)) z ∙ root_number q (omega arith) in
             omega arith
         | no p ↦
             let x = i - after (2 * n) in
             let z : i ≡ after (2 * n + x) = omega arith in
-            let e = ap finding_number (ap (gives_at (checks f) Clear) z ∙ gives_thirteen x (omega arith)) in
+            let e = ap finding_number (ap (gives_at (checks f) (Ok tt)) z ∙ gives_thirteen x (omega arith)) in
             omega arith
       ]
 
@@ -320,7 +320,7 @@ module _ (f : File) where
       let c = (refused_exactly f (Record record { 0 = x })).0 v in
       let a : c.at ≡ 3 + 2 * x = given_place f (Record record { 0 = x }) c in
       let b = holds_within (checks f) c.at c.decides.holds in
-      let k : finding_number (gives_at (checks f) Clear c.at) ≡ 4 = ap finding_number c.gives in
+      let k : finding_number (gives_at (checks f) (Ok tt) c.at) ≡ 4 = ap finding_number c.gives in
       elim (dec_le n x) [
         | yes e ↦ let l = late_number c.at (omega arith) b in absurd (omega arith)
         | no e ↦ omega arith
@@ -332,7 +332,7 @@ module _ (f : File) where
       let c = (refused_exactly f (Order record { 0 = x })).0 v in
       let a : c.at ≡ 4 + 2 * x = given_place f (Order record { 0 = x }) c in
       let b = holds_within (checks f) c.at c.decides.holds in
-      let k : finding_number (gives_at (checks f) Clear c.at) ≡ 5 = ap finding_number c.gives in
+      let k : finding_number (gives_at (checks f) (Ok tt) c.at) ≡ 5 = ap finding_number c.gives in
       elim (dec_le n x) [
         | yes e ↦ let l = late_number c.at (omega arith) b in absurd (omega arith)
         | no e ↦ omega arith
@@ -344,13 +344,13 @@ module _ (f : File) where
       let c = (refused_exactly f (Cycle record { 0 = x })).0 v in
       let a : c.at ≡ 3 + 2 * n + x = given_place f (Cycle record { 0 = x }) c in
       let b = holds_within (checks f) c.at c.decides.holds in
-      let k : finding_number (gives_at (checks f) Clear c.at) ≡ 13 = ap finding_number c.gives in
+      let k : finding_number (gives_at (checks f) (Ok tt) c.at) ≡ 13 = ap finding_number c.gives in
       let l = checks_length f in
       elim (dec_le n x) [
         | yes e ↦
             let q = x - n in
             let z : c.at ≡ after (3 * n + q) = omega arith in
-            let w = ap (λ (i : ℕ). finding_number (gives_at (checks f) Clear i)) z ∙ root_number q (omega arith) in
+            let w = ap (λ (i : ℕ). finding_number (gives_at (checks f) (Ok tt) i)) z ∙ root_number q (omega arith) in
             absurd (omega arith)
         | no e ↦ omega arith
       ]

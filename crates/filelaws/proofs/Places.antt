@@ -12,11 +12,10 @@ use Rattle.symbols.specs.declared.Refusal.{Refusal}
 use Rattle.symbols.specs.declared.Refusal.TheVariants as refusal
 use Rattle.formula.specs.File.{File, formula_of}
 use Rattle.formula.specs.Graph.{graph_of}
-use Rattle.checks.specs.Refusals.{head_rows, rows_of, record_rows, cycle_rows, root_rows, body_rows, checks, refuse, verdict}
+use Rattle.checks.specs.Refusals.{Finding, head_rows, rows_of, record_rows, cycle_rows, root_rows, body_rows, checks, refuse, verdict}
 use Rattle.filelaws.proofs.Exactly.{graph_rows, refused_exactly}
 use Rattle.formula.specs.declared.Formula.{Formula}
-use Rattle.checks.specs.declared.Finding.{Finding}
-use Rattle.checks.specs.declared.Finding.TheVariants.{Clear, Refuse}
+use Rattle.std.specs.Prelude.{Ok, Err}
 
 -- where a refusal stands in the table of a file with n nodes
 unfoldable pub place_of : ℕ → Refusal → ℕ
@@ -36,8 +35,8 @@ place_of n (refusal.Cycle i) = 3 + 2 * n + i.0
 place_of n refusal.Short = 0
 
 unfoldable finding_place : ℕ → Finding → ℕ
-finding_place n Clear = 0
-finding_place n (Refuse r) = place_of n r
+finding_place n (Ok u) = 0
+finding_place n (Err r) = place_of n r
 
 pub records_length : (f : File) (m : Formula) (k i : ℕ) → length (record_rows f m k i) ≡ 2 * k
 unfolding record_rows rows_of
@@ -50,46 +49,46 @@ cycles_length g zero i = refl
 cycles_length g (suc k) i = let e = cycles_length g k (i + 1) in omega arith
 
 module _ (n : ℕ) where
-  at_record : (f : File) (m : Formula) (k i j : ℕ) → j < 2 * k → finding_place n (gives_at (record_rows f m k i) Clear j) ≡ 3 + 2 * i + j
+  at_record : (f : File) (m : Formula) (k i j : ℕ) → j < 2 * k → finding_place n (gives_at (record_rows f m k i) (Ok tt) j) ≡ 3 + 2 * i + j
   unfolding record_rows rows_of place_of finding_place
   at_record f m zero i j p = absurd (omega arith)
   at_record f m (suc k) i zero p = omega arith
   at_record f m (suc k) i (suc zero) p = omega arith
   at_record f m (suc k) i (suc (suc j)) p = let e = at_record f m k (i + 1) j (omega arith) in omega arith
 
-  at_cycle : (g : Graph) (k i j : ℕ) → j < k → finding_place n (gives_at (cycle_rows g k i) Clear j) ≡ 3 + 2 * n + i + j
+  at_cycle : (g : Graph) (k i j : ℕ) → j < k → finding_place n (gives_at (cycle_rows g k i) (Ok tt) j) ≡ 3 + 2 * n + i + j
   unfolding cycle_rows place_of finding_place
   at_cycle g zero i j p = absurd (omega arith)
   at_cycle g (suc k) i zero p = omega arith
   at_cycle g (suc k) i (suc j) p = let e = at_cycle g k (i + 1) j (omega arith) in omega arith
 
-  at_root : (f : File) (m : Formula) (j : ℕ) → j < 2 → finding_place n (gives_at (root_rows f m) Clear j) ≡ 3 + 3 * n + j
+  at_root : (f : File) (m : Formula) (j : ℕ) → j < 2 → finding_place n (gives_at (root_rows f m) (Ok tt) j) ≡ 3 + 3 * n + j
   unfolding root_rows place_of finding_place
   at_root f m zero p = omega arith
   at_root f m (suc zero) p = omega arith
   at_root f m (suc (suc j)) p = absurd (omega arith)
 
-at_graph : (f : File) (m : Formula) (j : ℕ) → j < m.count + 2 → finding_place m.count (gives_at (graph_rows f m) Clear j) ≡ 3 + 2 * m.count + j
+at_graph : (f : File) (m : Formula) (j : ℕ) → j < m.count + 2 → finding_place m.count (gives_at (graph_rows f m) (Ok tt) j) ≡ 3 + 2 * m.count + j
 at_graph f m j p =
     let n = m.count in
     let c = cycle_rows (graph_of f m) n 0 in
     let l = cycles_length (graph_of f m) n 0 in
     elim (dec_le n j) [
-      | yes h ↦ ap (finding_place n) (gives_right c (root_rows f m) Clear j (j - n) (omega arith)) ∙ at_root n f m (j - n) (omega arith) ∙ (omega arith)
-      | no h ↦ ap (finding_place n) (gives_left c (root_rows f m) Clear j (omega arith)) ∙ at_cycle n (graph_of f m) n 0 j (omega arith) ∙ (omega arith)
+      | yes h ↦ ap (finding_place n) (gives_right c (root_rows f m) (Ok tt) j (j - n) (omega arith)) ∙ at_root n f m (j - n) (omega arith) ∙ (omega arith)
+      | no h ↦ ap (finding_place n) (gives_left c (root_rows f m) (Ok tt) j (omega arith)) ∙ at_cycle n (graph_of f m) n 0 j (omega arith) ∙ (omega arith)
     ]
 
-at_body : (f : File) (m : Formula) (j : ℕ) → j < 3 * m.count + 2 → finding_place m.count (gives_at (body_rows f m) Clear j) ≡ 3 + j
+at_body : (f : File) (m : Formula) (j : ℕ) → j < 3 * m.count + 2 → finding_place m.count (gives_at (body_rows f m) (Ok tt) j) ≡ 3 + j
 unfolding body_rows
 at_body f m j p =
     let n = m.count in
     let l = records_length f m n 0 in
     elim (dec_le (2 * n) j) [
       | yes h ↦
-          ap (finding_place n) (gives_right (record_rows f m n 0) (graph_rows f m) Clear j (j - 2 * n) (omega arith)) ∙ at_graph f m (j - 2 * n) (omega arith)
+          ap (finding_place n) (gives_right (record_rows f m n 0) (graph_rows f m) (Ok tt) j (j - 2 * n) (omega arith)) ∙ at_graph f m (j - 2 * n) (omega arith)
           ∙ (omega arith)
       | no h ↦
-          ap (finding_place n) (gives_left (record_rows f m n 0) (graph_rows f m) Clear j (omega arith)) ∙ at_record n f m n 0 j (omega arith) ∙ (omega arith)
+          ap (finding_place n) (gives_left (record_rows f m n 0) (graph_rows f m) (Ok tt) j (omega arith)) ∙ at_record n f m n 0 j (omega arith) ∙ (omega arith)
     ]
 
 root_length : (f : File) (m : Formula) → length (root_rows f m) ≡ 2
@@ -111,7 +110,7 @@ pub checks_length : (f : File) → length (checks f) ≡ 3 * (formula_of f).coun
 unfolding checks head_rows
 checks_length f = let l = body_length f (formula_of f) in omega arith
 
-place : (f : File) (i : ℕ) → i < length (checks f) → finding_place (formula_of f).count (gives_at (checks f) Clear i) ≡ i
+place : (f : File) (i : ℕ) → i < length (checks f) → finding_place (formula_of f).count (gives_at (checks f) (Ok tt) i) ≡ i
 unfolding checks head_rows place_of finding_place
 place f zero p = refl
 place f (suc zero) p = refl
@@ -119,13 +118,13 @@ place f (suc (suc zero)) p = refl
 place f (suc (suc (suc j))) p = let l = body_length f (formula_of f) in at_body f (formula_of f) j (omega arith) ∙ (omega arith)
 
 -- so a refusal is given at its own place only
-pub given_place : (f : File) (r : Refusal) (g : Given (checks f) Clear (Refuse r)) → g.at ≡ place_of (formula_of f).count r
+pub given_place : (f : File) (r : Refusal) (g : Given (checks f) (Ok tt) (Err r)) → g.at ≡ place_of (formula_of f).count r
 unfolding finding_place
 given_place f r g =
     sym (place f g.at (holds_within (checks f) g.at g.decides.holds)) ∙ ap (finding_place (formula_of f).count) g.gives
 
 -- refused with the refusal of row i ↔ row i's condition holds and no earlier one does
-pub row_exactly : (f : File) (i : ℕ) (r : Refusal) → i < length (checks f) → gives_at (checks f) Clear i ≡ Refuse r → (verdict f ≡ refuse r) ↔ Decides (checks f) i
+pub row_exactly : (f : File) (i : ℕ) (r : Refusal) → i < length (checks f) → gives_at (checks f) (Ok tt) i ≡ Err r → (verdict f ≡ refuse r) ↔ Decides (checks f) i
 row_exactly f i r p e =
     let n = (formula_of f).count in (
       λ v.
