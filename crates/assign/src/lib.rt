@@ -86,7 +86,8 @@ pub fn update_assignment(
 
 // The words that a node takes at the start.
 fn takes(n: Node) -> u32
-    ensures { (result ≡ start.takes (node_is n)) × (result ≤ 1) }
+    ensures taken { result ≡ start.takes (node_is n) }
+    ensures at_most_one { result ≤ 1 }
 {
     match n {
         Node::Constant(_) => 0,
