@@ -10,11 +10,7 @@ use Rattle.bitvec.specs.Word.{M, bvmul, bvand, bvor, bvnot, bvlshr, ctz}
 use Rattle.bitvec.specs.Inverse.{inverse_of, InverseIs}
 use Rattle.bitvec.specs.declared.BitVector.{BitVector}
 use Rattle.bitvec.proofs.Laws.{OddPart, odd_part, inverse_only}
-use Rattle.words.specs.Words.{Words, Place, Draw}
-use Rattle.symbols.specs.declared.OperandSide.{OperandSide}
-use Rattle.symbols.specs.declared.BVOperator.{BVOperator}
-use Rattle.symbols.specs.declared.BVOperator.TheVariants.{Mul}
-use Rattle.rules.specs.One.{mul_value, inverse_at}
+use Rattle.rules.specs.One.{mul_value}
 
 -- p is what is left of s after its zeros, and r its inverse, if any
 module _ (s t w : ℕ) (hs : s < 2 ^ 64) (c : ℕ) (hc : c ≡ ctz s) (p : ℕ) (hp : p ≡ bvlshr s (c % 64)) (r : Option BitVector) (hr : InverseIs p r) where
@@ -48,7 +44,3 @@ module _ (s t w : ℕ) (hs : s < 2 ^ 64) (c : ℕ) (hc : c ≡ ctz s) (p : ℕ) 
         | yes z ↦ let none : p ≡ 0 = hp ∙ rw (z, zero-div (2 ^ (c % 64))) in absurd (omega (arith, told.0))
         | no nz ↦ let is : i.0 ≡ inverse_of p = inverse_only p i.0 hi told.1 (odd nz) in rw (ne_eqb s 0 nz, ← part nz, ← is, hv, small nz)
       ]
-
--- the row where the side does not matter
-pub row_mul : (o : BVOperator) (d : OperandSide) (s t : ℕ) (ws : Words) (n : Place) (x : Draw) → o ≡ Mul → ((c : OperandSide) → x ≡ inverse_at Mul c s t ws n) → x ≡ inverse_at o d s t ws n
-row_mul o d s t ws n x e h = rw e (h d)
