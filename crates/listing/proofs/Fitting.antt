@@ -1,5 +1,6 @@
 -- Q-2: "14 Short, exactly when the listing is longer than the buffer": one law for each `return`. Assumes nothing.
 use Prim.Native.Nat.{ℕ, ◌+◌, ◌^◌, ◌≤◌, ◌<◌}
+use Rattle.std.specs.Prelude.{Ok, Err}
 use mathlib.Core.Path.{◌≡◌, ap, ◌∙◌}
 use mathlib.Core.List.{◌++◌}
 use native.Mathlib.Omega.{arith}
@@ -9,10 +10,9 @@ use Rattle.text.specs.Text.{Text, Place, Wrote}
 use Rattle.text.proofs.Writing.{placed_fits}
 use Rattle.symbols.specs.declared.Refusal.TheVariants.{Short}
 use Rattle.listing.specs.Answer.{fitted, result_of}
-use Rattle.listing.specs.declared.Listed.TheVariants.{Length, Refused}
 
 module _ (text o : Text) (n : ℕ) (is : n ≡ length text) where
-  pub fit_written : (p : Text) (k : Place) → n ≤ length o → length o < 2 ^ 64 → Wrote text 0 o p k → result_of (Length k) p ≡ fitted text o
+  pub fit_written : (p : Text) (k : Place) → n ≤ length o → length o < 2 ^ 64 → Wrote text 0 o p k → result_of (Ok k) p ≡ fitted text o
   unfolding fitted
   fit_written p k h fits w =
       let ek : k ≡ length text = omega (arith, w.place) in
@@ -20,6 +20,6 @@ module _ (text o : Text) (n : ℕ) (is : n ≡ length text) where
       let ep : p ≡ text ++ drop (length text) o = w.buffer ∙ placed_fits text 0 o (omega arith) ∙ ap (λ (i : ℕ). text ++ drop i o) ez in
       rw (ek, ep, le-leb (length text) (length o) (omega arith))
 
-  pub fit_short : length o < n → result_of (Refused Short) o ≡ fitted text o
+  pub fit_short : length o < n → result_of (Err Short) o ≡ fitted text o
   unfolding fitted
   fit_short h = rw (lt-leb (length text) (length o) (omega arith))

@@ -1,5 +1,5 @@
 -- Q-2: the whole call: a graph file and the lent buffer. Assumes nothing.
-use Rattle.std.specs.Prelude.{ℕ, ◌≤◌, ◌≡◌, List, ◌++◌, length, drop, leb}
+use Rattle.std.specs.Prelude.{ℕ, ◌≤◌, ◌≡◌, List, ◌++◌, Result as Answered, Ok, Err, length, drop, nat_le}
 use Rattle.laws.specs.Pick.{pick}
 use Rattle.text.specs.Text.{Text}
 use Rattle.symbols.specs.Refusals.{number_of, values_of}
@@ -11,8 +11,6 @@ use Rattle.formula.specs.declared.Formula.{Formula}
 use Rattle.checks.specs.Refusals as file
 use Rattle.checks.specs.Refusals.{verdict}
 use Rattle.listing.specs.Listing.{listing}
-use Rattle.listing.specs.declared.Listed.{Listed}
-use Rattle.listing.specs.declared.Listed.TheVariants.{Length, Refused}
 
 -- the listing's length, or a refusal's number and values; and the buffer after the call
 pub data Result : Type 0 where
@@ -24,7 +22,7 @@ refuse r out = refused (number_of r) (values_of r) out
 
 -- "The answer is the length. Bytes past it stay." "14 Short, exactly when the listing is longer than the buffer …; nothing is written."
 unfoldable pub fitted : Text → Text → Result
-fitted text out = pick (leb (length text) (length out)) (written (length text) (text ++ drop (length text) out)) (refuse Short out)
+fitted text out = pick (nat_le (length text) (length out)) (written (length text) (text ++ drop (length text) out)) (refuse Short out)
 
 abbrev pub on_verdict : File → Text → file.Answer → Result
 on_verdict f out (file.accepted m) = fitted (listing (graph_of f m)) out
@@ -35,9 +33,9 @@ unfoldable pub answer : File → Text → Result
 answer f out = on_verdict f out (verdict f)
 
 -- the code's answer, with the buffer after the call
-abbrev pub result_of : Listed → Text → Result
-result_of (Length n) out = written n out
-result_of (Refused r) out = refuse r out
+abbrev pub result_of : Answered ℕ Refusal → Text → Result
+result_of (Ok n) out = written n out
+result_of (Err r) out = refuse r out
 
 -- 4,000 lines of at most 41 bytes
 abbrev pub Bounded : File → Type 0

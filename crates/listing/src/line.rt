@@ -64,8 +64,8 @@ pub fn put_line(out: &mut [u8], id: SymbolId, n: Node) -> usize
 
 // How long it is: what a writer answers on an empty buffer.
 pub fn line_length(id: SymbolId, n: Node) -> usize
-    ensures { (result ≡ length (line_of id.0 (node_is n))) × (result ≤ 41) }
+    ensures length { result ≡ length (line_of id.0 (node_is n)) }
+    ensures most { result ≤ 41 }
 {
-    let mut none: [u8; 0] = [0; 0];
-    put_line(&mut none, id, n)
+    put_line(&mut [], id, n)
 }
