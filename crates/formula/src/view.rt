@@ -6,7 +6,15 @@ ghost use Rattle.formula.specs.View.{graph, symbol_of, operand_of, operands_of, 
 
 use super::record::{decode, record_kind};
 use super::{Formula, Node};
-use symbols::{BVOperator, Symbol, SymbolId};
+use symbols::{Symbol, SymbolId};
+
+// The operands of a node: none, one or two.
+#[derive(Clone, Copy)]
+pub enum OperandIds {
+    None,
+    One(SymbolId),
+    Two(SymbolId, SymbolId),
+}
 
 #[derive(Clone, Copy)]
 pub struct FormulaView<'a> {
@@ -77,52 +85,5 @@ impl FormulaView<'_> {
         ensures { result ≡ is_leaf ((graph self.now).node id.0) }
     {
         self.node(id).is_operand()
-    }
-}
-
-#[derive(Clone, Copy)]
-pub enum OperandIds {
-    None,
-    One(SymbolId),
-    Two(SymbolId, SymbolId),
-}
-
-impl Node {
-    pub fn symbol(self) -> Symbol
-        ensures { result ≡ symbol_of (node_is self) }
-    {
-        match self {
-            Node::Constant(v) => Symbol::Constant(v),
-            Node::Input(p) => Symbol::Input(p.label),
-            Node::Unary(_) => Symbol::Operator(BVOperator::Not),
-            Node::Binary(op, _, _) => Symbol::Operator(op),
-        }
-    }
-
-    // The left or only operand. A leaf has none, and answers the id that it is asked with: its own.
-    pub fn operand(self, id: SymbolId) -> SymbolId
-        ensures { result.0 ≡ operand_of id.0 (node_is self) }
-    {
-        match self {
-            Node::Constant(_) | Node::Input(_) => id,
-            Node::Unary(a) | Node::Binary(_, a, _) => a,
-        }
-    }
-
-    pub fn operands(self) -> OperandIds
-        ensures { result ≡ operands_of (node_is self) }
-    {
-        match self {
-            Node::Constant(_) | Node::Input(_) => OperandIds::None,
-            Node::Unary(a) => OperandIds::One(a),
-            Node::Binary(_, a, b) => OperandIds::Two(a, b),
-        }
-    }
-
-    // Whether it is no operator, as in the source.
-    pub fn is_operand(self) -> bool
-        ensures { result ≡ is_leaf (node_is self) }
-    {
-        matches!(self, Node::Constant(_) | Node::Input(_))
     }
 }
