@@ -7,7 +7,7 @@ ghost use Rattle.order.specs.Walking.{Walking};
 ghost use Rattle.order.specs.Finishing.{ahead};
 
 use super::marks::clear;
-use super::walk::{Walk, advance, push};
+use super::walk::{START, Walk, advance, push};
 use formula::FormulaView;
 use symbols::SymbolId;
 
@@ -26,8 +26,9 @@ fn finish_all(
     ensures within { result ≤ formula.now.layout.count }
 {
     let mut w = first;
-    // A work list: each turn may open a node or close one, so no count says how many there are.
+    // Each turn opens a node or closes one, so this is no counted loop.
     while 0 < w.depth {
+        // There always is a next turn: no node reaches itself.
         let Some(next) = advance(formula, place, order, stack, w) else {
             return 0;
         };
@@ -54,11 +55,6 @@ pub fn gather(
     ensures within { result ≤ formula.now.layout.count }
 {
     clear(place, formula.count());
-    let first = Walk {
-        next: 0,
-        depth: 0,
-        done: 0,
-    };
-    let w = push(place, stack, first, id);
+    let w = push(place, stack, START, id);
     finish_all(formula, place, order, stack, w)
 }

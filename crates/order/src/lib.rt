@@ -9,7 +9,7 @@ use formula::FormulaView;
 use marks::{clear, number_at};
 use spread::meet_operands;
 use symbols::SymbolId;
-use walk::{Walk, step};
+use walk::{START, step};
 
 pub mod gather;
 pub mod marks;
@@ -37,11 +37,7 @@ pub fn arrange(
 {
     let count = formula.count();
     clear(place, count);
-    let mut w = Walk {
-        next: 0,
-        depth: 0,
-        done: 0,
-    };
+    let mut w = START;
     // A turn need not finish a node, so this is no counted loop.
     while w.done < count {
         let Some(next) = step(formula, place, order, stack, w) else {

@@ -13,6 +13,7 @@ pub fn put(s: &mut [u32], at: u32, v: u32)
     ensures { s.new ≡ set s.old at v }
 {
     let i = at as usize;
+    // By index: a write through `get_mut` does not show that nothing changes where there is no such place.
     if i < s.len() {
         s[i] = v;
     }

@@ -17,6 +17,13 @@ pub struct Walk {
     pub done: u32,
 }
 
+// Nothing is met yet.
+pub const START: Walk = Walk {
+    next: 0,
+    depth: 0,
+    done: 0,
+};
+
 // What is to be done at an open node: an operand not met yet is next, an operand is open, or the node is done.
 #[derive(Clone, Copy)]
 pub enum Move {
