@@ -27,20 +27,23 @@ fn trailer(file: &[u8]) -> &[u8]
 fn layout(file: &[u8]) -> Formula
     ensures { result ≡ formula_of file.now }
 {
-    let t = trailer(file);
-    let d = u32_at(t, 0);
+    let trailer = trailer(file);
+    let distance = u32_at(trailer, 0);
     Formula {
-        first: file.len().saturating_sub(16).saturating_sub(d as usize),
-        count: d / 16,
-        root: SymbolId(u32_at(t, 4)),
+        first: file
+            .len()
+            .saturating_sub(16)
+            .saturating_sub(distance as usize),
+        count: distance / 16,
+        root: SymbolId(u32_at(trailer, 4)),
     }
 }
 
 // Whether a record of this kind is zero wherever it must be.
-fn is_clean(k: Option<Kind>, r: &[u8]) -> bool
-    ensures { result ≡ clean k r.now }
+fn is_clean(kind: Option<Kind>, r: &[u8]) -> bool
+    ensures { result ≡ clean kind r.now }
 {
-    match k {
+    match kind {
         Some(Kind::Constant) => all_zero(r, 1, 7),
         Some(Kind::Input) => all_zero(r, 1, 3) && all_zero(r, 5, 3),
         Some(Kind::Unary) => all_zero(r, 1, 3) && all_zero(r, 8, 8),
@@ -78,16 +81,20 @@ fn is_fixed(n: Node) -> bool
 fn check_head(file: &[u8]) -> Result<(), Refusal>
     ensures { result ≡ first (head_rows file.now) (Ok tt) }
 {
-    let n = file.len();
-    if !(16..=65536).contains(&n) {
+    let length = file.len();
+    if !(16..=65536).contains(&length) {
         return Err(Refusal::Size);
     }
-    let t = trailer(file);
-    if u32_at(t, 8) != 1 || u32_at(t, 12) != 0 {
+    let trailer = trailer(file);
+    if u32_at(trailer, 8) != 1 || u32_at(trailer, 12) != 0 {
         return Err(Refusal::Trailer);
     }
-    let d = u32_at(t, 0);
-    if d == 0 || d % 16 != 0 || 64000 < d || n.saturating_sub(16) < d as usize {
+    let distance = u32_at(trailer, 0);
+    if distance == 0
+        || distance % 16 != 0
+        || 64000 < distance
+        || length.saturating_sub(16) < distance as usize
+    {
         return Err(Refusal::Span);
     }
     Ok(())
@@ -97,9 +104,9 @@ fn check_head(file: &[u8]) -> Result<(), Refusal>
 fn check_record(r: &[u8], n: u32, id: SymbolId) -> Result<(), Refusal>
     ensures { result ≡ first (rows_of r.now n id.0) (Ok tt) }
 {
-    let k = record_kind(r);
-    let node = decode(k, r);
-    if k.is_none() || !is_clean(k, r) || is_wide(node) {
+    let kind = record_kind(r);
+    let node = decode(kind, r);
+    if kind.is_none() || !is_clean(kind, r) || is_wide(node) {
         return Err(Refusal::Record(id));
     }
     if is_outside(n, node) {
