@@ -8,7 +8,7 @@ use super::{Kind, Node};
 use bitvec::BitVector;
 use symbols::{BVOperator, Port, SymbolId};
 
-// Byte 0 of a record, by its number.
+// Byte 0 of a record, by its number: the whole table as the paper has it, of which `BVOperator::from_number` has the operators.
 const KINDS: [Kind; 11] = [
     Kind::Constant,
     Kind::Input,
