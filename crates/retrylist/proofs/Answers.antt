@@ -1,4 +1,5 @@
 -- One law for each `return`. Assumes nothing.
+use Rattle.std.specs.Prelude.{Result, Ok, Err}
 use Prim.Native.Nat.{ℕ, ◌+◌, ◌≤◌}
 use mathlib.Core.Path.{◌≡◌, refl, sym, ap, ◌∙◌}
 use mathlib.Core.List.{◌++◌}
@@ -16,8 +17,6 @@ use Rattle.checks.specs.Refusals as file
 use Rattle.checks.specs.Refusals.{verdict}
 use Rattle.listing.specs.Listing.{listing}
 use Rattle.listing.specs.Answer.{written, refuse, fitted, on_verdict, answer, result_of, Bounded}
-use Rattle.listing.specs.declared.Listed.{Listed}
-use Rattle.listing.specs.declared.Listed.TheVariants as told
 use Rattle.refusals.specs.Line.{refusal_text}
 use Rattle.retrylist.specs.Printed.{printed_by, printed}
 
@@ -58,14 +57,14 @@ module _ (f : File) (o p : Text) (room : 164000 ≤ length o) (bound : Bounded f
       record { wrote = u.wrote; short = omega (arith, u.short) }
 
   -- respond
-  module _ (x : Listed) (e : result_of x p ≡ answer f o) where
-    pub respond_listed : (n : ℕ) → x ≡ told.Length n → WroteUpTo 164000 (printed f) 0 o p n
+  module _ (x : Result ℕ Refusal) (e : result_of x p ≡ answer f o) where
+    pub respond_listed : (n : ℕ) → x ≡ Ok n → WroteUpTo 164000 (printed f) 0 o p n
     unfolding printed answer
-    respond_listed n h = listed_by n (verdict f) refl (ap (λ (y : Listed). result_of y p) (sym h) ∙ e)
+    respond_listed n h = listed_by n (verdict f) refl (rw h at e)
 
-    pub respond_refused : (r : Refusal) (q : Text) (n : Place) → x ≡ told.Refused r → WroteUpTo 50 (refusal_text (number_of r) (values_of r)) 0 p q n → WroteUpTo 164000 (printed f) 0 o q n
+    pub respond_refused : (r : Refusal) (q : Text) (n : Place) → x ≡ Err r → WroteUpTo 50 (refusal_text (number_of r) (values_of r)) 0 p q n → WroteUpTo 164000 (printed f) 0 o q n
     unfolding printed answer
-    respond_refused r q n h w = refused_by r q n (verdict f) refl (ap (λ (y : Listed). result_of y p) (sym h) ∙ e) w
+    respond_refused r q n h w = refused_by r q n (verdict f) refl (rw h at e) w
 
 -- main
 pub page_part : {t : Text} {o p : Text} {r : Place} → 164000 ≡ length o → WroteUpTo 164000 t 0 o p r → r ≡ length (take r p)
