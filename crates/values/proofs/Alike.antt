@@ -1,21 +1,21 @@
 -- "prove that two permitted answers coincide": the maps from the code's answers to the paper's terms are injective, so that a contract
 -- allows one answer for each argument. Assumes nothing.
-use mathlib.Core.Path.{◌≡◌, ap, ap₂}
+use mathlib.Core.Path.{◌≡◌, refl, sym, ap, ap₂}
 use Prim.Native.Nat.{ℕ}
 use native.Mathlib.Omega.{arith}
 use Rattle.bitvec.specs.declared.BitVector.{BitVector}
 use Rattle.words.specs.declared.WordSource.{WordSource}
 use Rattle.symbols.proofs.Numbers.{refusal_injective}
-use Rattle.rules.specs.Rules.{draw_of}
-use Rattle.rules.specs.declared.Drawn.{Drawn}
-use Rattle.rules.specs.declared.Drawn.TheVariants as drawn
-use Rattle.values.specs.declared.Valued.{Valued}
-use Rattle.values.specs.declared.Valued.TheVariants as valued
-use Rattle.values.specs.declared.Unary.{Unary}
-use Rattle.values.specs.declared.Unary.TheVariants as unary
+use Rattle.rules.specs.Rules.{draw_of, stuck}
+use Rattle.std.specs.Prelude.{Some, None, Result, Ok, Err}
+use Rattle.words.specs.Words.{Drawn}
+use Rattle.words.proofs.Laws.{same_drawn, none_drawn}
+use Rattle.symbols.specs.declared.Refusal.{Refusal}
+use Rattle.values.specs.declared.Rule.{Rule}
+use Rattle.values.specs.declared.Rule.TheVariants.{Inverse, Consistent}
 use Rattle.values.specs.declared.Chosen.{Chosen}
-use Rattle.values.specs.declared.Chosen.TheVariants as chosen
-use Rattle.values.specs.Answers.{answer_of, unary_of, got_of}
+use Rattle.values.specs.declared.RanDry.{RanDry}
+use Rattle.values.specs.Answers.{answer_of, unary_of, got_of, took}
 
 word : (v w : BitVector) → v.0 ≡ w.0 → v ≡ w
 word v w e = ap (λ (x : ℕ). record { 0 = x }) e
@@ -23,31 +23,44 @@ word v w e = ap (λ (x : ℕ). record { 0 = x }) e
 place : (p q : WordSource) → p.at ≡ q.at → p ≡ q
 place p q e = ap (λ (x : ℕ). record { at = x }) e
 
-pub drawn_alike : (a b : Drawn) → draw_of a ≡ draw_of b → a ≡ b
-drawn_alike (drawn.Value v p) (drawn.Value w q) e = let x : p ≡ q = cc in ap₂ drawn.Value (word v w (cc)) x
-drawn_alike (drawn.Value v p) drawn.Dry e = let z : ◌≡◌ {A = ℕ} 0 1 = cc in absurd (omega arith)
-drawn_alike drawn.Dry (drawn.Value w q) e = let z : ◌≡◌ {A = ℕ} 0 1 = cc in absurd (omega arith)
-drawn_alike drawn.Dry drawn.Dry e = cc
+pub drawn_alike : (a b : Drawn BitVector) → draw_of a ≡ draw_of b → a ≡ b
+drawn_alike (Some (v, p)) (Some (w, q)) e = let x = same_drawn v.0 w.0 p q e in ap₂ (λ (y : BitVector) (s : WordSource). Some (y, s)) (word v w x.0) x.1
+drawn_alike (Some (v, p)) None e = none_drawn v.0 p (sym e)
+drawn_alike None (Some (w, q)) e = none_drawn w.0 q e
+drawn_alike None None e = refl
 
-pub answers_alike : (a b : Valued) → answer_of a ≡ answer_of b → a ≡ b
-answers_alike (valued.Value v p) (valued.Value w q) e = ap₂ valued.Value (word v w (cc)) (place p q (cc))
-answers_alike (valued.Value v p) (valued.Refused s) e = let z : ◌≡◌ {A = ℕ} 0 1 = cc in absurd (omega arith)
-answers_alike (valued.Refused r) (valued.Value w q) e = let z : ◌≡◌ {A = ℕ} 0 1 = cc in absurd (omega arith)
-answers_alike (valued.Refused r) (valued.Refused s) e = ap valued.Refused (refusal_injective r s (cc) (cc))
+pub answers_alike : (a b : Result (BitVector × WordSource) Refusal) → answer_of a ≡ answer_of b → a ≡ b
+answers_alike (Ok (v, p)) (Ok (w, q)) e = ap₂ (λ (y : BitVector) (s : WordSource). Ok (y, s)) (word v w (cc)) (place p q (cc))
+answers_alike (Ok (v, p)) (Err s) e = let z : ◌≡◌ {A = ℕ} 0 1 = cc in absurd (omega arith)
+answers_alike (Err r) (Ok (w, q)) e = let z : ◌≡◌ {A = ℕ} 0 1 = cc in absurd (omega arith)
+answers_alike (Err r) (Err s) e = ap Err (refusal_injective r s (cc) (cc))
 
-pub unary_alike : (a b : Unary) → unary_of a ≡ unary_of b → a ≡ b
-unary_alike (unary.Value v) (unary.Value w) e = ap unary.Value (word v w (cc))
-unary_alike (unary.Value v) (unary.Refused s) e = let z : ◌≡◌ {A = ℕ} 0 1 = cc in absurd (omega arith)
-unary_alike (unary.Refused r) (unary.Value w) e = let z : ◌≡◌ {A = ℕ} 0 1 = cc in absurd (omega arith)
-unary_alike (unary.Refused r) (unary.Refused s) e = ap unary.Refused (refusal_injective r s (cc) (cc))
+pub unary_alike : (a b : Result BitVector Refusal) → unary_of a ≡ unary_of b → a ≡ b
+unary_alike (Ok v) (Ok w) e = ap Ok (word v w (cc))
+unary_alike (Ok v) (Err s) e = let z : ◌≡◌ {A = ℕ} 0 1 = cc in absurd (omega arith)
+unary_alike (Err r) (Ok w) e = let z : ◌≡◌ {A = ℕ} 0 1 = cc in absurd (omega arith)
+unary_alike (Err r) (Err s) e = ap Err (refusal_injective r s (cc) (cc))
 
-pub chosen_alike : (a b : Chosen) → got_of a ≡ got_of b → a ≡ b
-chosen_alike (chosen.Inverse v p) (chosen.Inverse w q) e = ap₂ chosen.Inverse (word v w (cc)) (place p q (cc))
-chosen_alike (chosen.Inverse v p) (chosen.Consistent w q) e = let z : ◌≡◌ {A = ℕ} 0 1 = cc in absurd (omega arith)
-chosen_alike (chosen.Inverse v p) (chosen.Dry q) e = let z : ◌≡◌ {A = ℕ} 0 1 = cc in absurd (omega arith)
-chosen_alike (chosen.Consistent v p) (chosen.Inverse w q) e = let z : ◌≡◌ {A = ℕ} 0 1 = cc in absurd (omega arith)
-chosen_alike (chosen.Consistent v p) (chosen.Consistent w q) e = ap₂ chosen.Consistent (word v w (cc)) (place p q (cc))
-chosen_alike (chosen.Consistent v p) (chosen.Dry q) e = let z : ◌≡◌ {A = ℕ} 0 1 = cc in absurd (omega arith)
-chosen_alike (chosen.Dry p) (chosen.Inverse w q) e = let z : ◌≡◌ {A = ℕ} 0 1 = cc in absurd (omega arith)
-chosen_alike (chosen.Dry p) (chosen.Consistent w q) e = let z : ◌≡◌ {A = ℕ} 0 1 = cc in absurd (omega arith)
-chosen_alike (chosen.Dry p) (chosen.Dry q) e = ap chosen.Dry (place p q (cc))
+-- of one rule
+same : (r : Rule) (v w : BitVector) (p q : WordSource) → v ≡ w → p ≡ q → ◌≡◌ {A = Chosen} (record { rule = r; value = v; source = p }) (record { rule = r; value = w; source = q })
+same r v w p q x y = ap₂ (λ (z : BitVector) (s : WordSource). record { rule = r; value = z; source = s }) x y
+
+pub chosen_alike : (a b : Result Chosen RanDry) → got_of a ≡ got_of b → a ≡ b
+chosen_alike (Ok a) (Ok b) e = ap Ok (by a.rule b.rule e)
+  where
+    by : (r s : Rule) → took r a.value.0 a.source.at ≡ took s b.value.0 b.source.at → ◌≡◌ {A = Chosen} (record { rule = r; value = a.value; source = a.source }) (record { rule = s; value = b.value; source = b.source })
+    by Inverse Inverse f = same Inverse a.value b.value a.source b.source (word a.value b.value (cc)) (place a.source b.source (cc))
+    by Inverse Consistent f = let z : ◌≡◌ {A = ℕ} 0 1 = cc in absurd (omega arith)
+    by Consistent Inverse f = let z : ◌≡◌ {A = ℕ} 0 1 = cc in absurd (omega arith)
+    by Consistent Consistent f = same Consistent a.value b.value a.source b.source (word a.value b.value (cc)) (place a.source b.source (cc))
+chosen_alike (Ok a) (Err q) e = by a.rule e
+  where
+    by : (r : Rule) → took r a.value.0 a.source.at ≡ stuck q.source.at → Ok a ≡ Err q
+    by Inverse f = let z : ◌≡◌ {A = ℕ} 0 1 = cc in absurd (omega arith)
+    by Consistent f = let z : ◌≡◌ {A = ℕ} 0 1 = cc in absurd (omega arith)
+chosen_alike (Err p) (Ok b) e = by b.rule e
+  where
+    by : (r : Rule) → stuck p.source.at ≡ took r b.value.0 b.source.at → Err p ≡ Ok b
+    by Inverse f = let z : ◌≡◌ {A = ℕ} 0 1 = cc in absurd (omega arith)
+    by Consistent f = let z : ◌≡◌ {A = ℕ} 0 1 = cc in absurd (omega arith)
+chosen_alike (Err p) (Err q) e = ap Err (ap (λ (s : WordSource). record { source = s }) (place p.source q.source (cc)))

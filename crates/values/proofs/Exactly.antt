@@ -6,9 +6,8 @@ use mathlib.Core.Bool.{Bool, true, false, not}
 use Prim.Native.Nat.{ℕ}
 use native.Mathlib.Omega.{arith}
 use Rattle.laws.specs.Rows.{row, first}
-use Rattle.words.specs.Words.{Words, Place}
-use Rattle.words.specs.declared.Draw.{Draw}
-use Rattle.words.specs.declared.Draw.TheVariants as draw
+use Rattle.std.specs.Prelude.{Some, None}
+use Rattle.words.specs.Words.{Words, Place, Draw}
 use Rattle.symbols.specs.Graph.{Value}
 use Rattle.symbols.specs.Operators.{is_unary}
 use Rattle.symbols.specs.Refusals.{number_of, values_of}
@@ -25,22 +24,22 @@ Asked u b r = first (row u (refusal Arity) ∷ row (not b) (refusal NoInverse) �
 arity_by : (u b : Bool) (r : Draw) → Asked u b r ≡ refusal Arity → u ≡ true
 unfolding first
 arity_by true b r e = refl
-arity_by false true (draw.Word v s) e = let z : ◌≡◌ {A = ℕ} 0 1 = cc in absurd (omega arith)
-arity_by false true draw.Dry e = let z : ◌≡◌ {A = ℕ} 12 10 = cc in absurd (omega arith)
+arity_by false true (Some (v, s)) e = let z : ◌≡◌ {A = ℕ} 0 1 = cc in absurd (omega arith)
+arity_by false true None e = let z : ◌≡◌ {A = ℕ} 12 10 = cc in absurd (omega arith)
 arity_by false false r e = let z : ◌≡◌ {A = ℕ} 11 10 = cc in absurd (omega arith)
 
 none_by : (u b : Bool) (r : Draw) → Asked u b r ≡ refusal NoInverse → (u ≡ false) × (b ≡ false)
 unfolding first
 none_by true b r e = let z : ◌≡◌ {A = ℕ} 10 11 = cc in absurd (omega arith)
-none_by false true (draw.Word v s) e = let z : ◌≡◌ {A = ℕ} 0 1 = cc in absurd (omega arith)
-none_by false true draw.Dry e = let z : ◌≡◌ {A = ℕ} 12 11 = cc in absurd (omega arith)
+none_by false true (Some (v, s)) e = let z : ◌≡◌ {A = ℕ} 0 1 = cc in absurd (omega arith)
+none_by false true None e = let z : ◌≡◌ {A = ℕ} 12 11 = cc in absurd (omega arith)
 none_by false false r e = (refl, refl)
 
-dry_by : (u b : Bool) (r : Draw) → Asked u b r ≡ refusal Dry → (u ≡ false) × (b ≡ true) × (r ≡ draw.Dry)
+dry_by : (u b : Bool) (r : Draw) → Asked u b r ≡ refusal Dry → (u ≡ false) × (b ≡ true) × (r ≡ None)
 unfolding first
 dry_by true b r e = let z : ◌≡◌ {A = ℕ} 10 12 = cc in absurd (omega arith)
-dry_by false true (draw.Word v s) e = let z : ◌≡◌ {A = ℕ} 0 1 = cc in absurd (omega arith)
-dry_by false true draw.Dry e = (refl, refl, refl)
+dry_by false true (Some (v, s)) e = let z : ◌≡◌ {A = ℕ} 0 1 = cc in absurd (omega arith)
+dry_by false true None e = (refl, refl, refl)
 dry_by false false r e = let z : ◌≡◌ {A = ℕ} 11 12 = cc in absurd (omega arith)
 
 module _ (ρ : Rules) (o : BVOperator) (d : OperandSide) (s t : Value) (ws : Words) (n : Place) where
@@ -55,7 +54,7 @@ module _ (ρ : Rules) (o : BVOperator) (d : OperandSide) (s t : Value) (ws : Wor
   inverse_none_exactly = (none_by (is_unary o) (ρ.table o d s t) (ρ.inverse o d s t ws n), λ p. rw (p.0, p.1))
 
   -- "12 Dry: a single value's words run out"
-  pub inverse_dry_exactly : (inverse_answer ρ o d s t ws n ≡ refusal Dry) ↔ ((is_unary o ≡ false) × (ρ.table o d s t ≡ true) × (ρ.inverse o d s t ws n ≡ draw.Dry))
+  pub inverse_dry_exactly : (inverse_answer ρ o d s t ws n ≡ refusal Dry) ↔ ((is_unary o ≡ false) × (ρ.table o d s t ≡ true) × (ρ.inverse o d s t ws n ≡ None))
   unfolding inverse_answer first
   inverse_dry_exactly = (dry_by (is_unary o) (ρ.table o d s t) (ρ.inverse o d s t ws n), λ p. rw (p.0, p.1, p.2))
 
@@ -63,7 +62,7 @@ module _ (ρ : Rules) (o : BVOperator) (d : OperandSide) (s t : Value) (ws : Wor
   unfolding consistent_answer first
   consistent_arity_exactly = (arity_by (is_unary o) true (ρ.consistent o d t ws n), λ u. rw u)
 
-  pub consistent_dry_exactly : (consistent_answer ρ o d t ws n ≡ refusal Dry) ↔ ((is_unary o ≡ false) × (ρ.consistent o d t ws n ≡ draw.Dry))
+  pub consistent_dry_exactly : (consistent_answer ρ o d t ws n ≡ refusal Dry) ↔ ((is_unary o ≡ false) × (ρ.consistent o d t ws n ≡ None))
   unfolding consistent_answer first
   consistent_dry_exactly = (λ e. let p = dry_by (is_unary o) true (ρ.consistent o d t ws n) e in (p.0, p.2), λ p. rw (p.0, p.1))
 

@@ -1,4 +1,2 @@
-pub mod Choice
-pub mod Answered
 pub mod Alike
 pub mod Exactly

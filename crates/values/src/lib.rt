@@ -10,32 +10,32 @@ use bitvec::BitVector;
 use consistent::draw_consistent;
 use inverse::draw_inverse;
 use reach::is_invertible;
-use rules::Drawn;
 use symbols::{BVOperator, OperandSide, Refusal};
-use words::{Toss, WordSource};
+use words::WordSource;
 
-// A value and the source after its words, or the refusal: 10 Arity, 11 NoInverse or 12 Dry.
-#[derive(Clone, Copy)]
-pub enum Valued {
-    Value(BitVector, WordSource),
-    Refused(Refusal),
+// Which of the two values a step passes on.
+#[derive(Clone, Copy, PartialEq, Eq)]
+pub enum Rule {
+    Inverse,
+    Consistent,
 }
 
-// A value that needs no word, or the refusal: 10 Arity.
+// The value that a step passes on, the rule that it is of, and the source after its words.
 #[derive(Clone, Copy)]
-pub enum Unary {
-    Value(BitVector),
-    Refused(Refusal),
+pub struct Chosen {
+    pub rule: Rule,
+    pub value: BitVector,
+    pub source: WordSource,
 }
 
-// The value that a step passes on and the source after its words, or the source where they ran out.
+// The words ran out; the source before the value that was left unfinished.
 #[derive(Clone, Copy)]
-pub enum Chosen {
-    Inverse(BitVector, WordSource),
-    Consistent(BitVector, WordSource),
-    Dry(WordSource),
+pub struct RanDry {
+    pub source: WordSource,
 }
 
+// The value and the source after its words, or the refusal: 10 Arity, 11 NoInverse or 12 Dry.
+#[tactic(auto, unfolding(crate::specs::Answers::inverse_answer, laws::specs::Rows::first))]
 pub fn compute_inverse_value(
     op: BVOperator,
     s: BitVector,
@@ -43,52 +43,51 @@ pub fn compute_inverse_value(
     d: OperandSide,
     words: &[u64],
     source: WordSource,
-) -> Valued
+) -> Result<(BitVector, WordSource), Refusal>
     ensures { answer_of result ≡ inverse_answer one op d s.0 t.0 words.now source.at }
 {
     if op.is_unary() {
-        return Valued::Refused(Refusal::Arity);
+        return Err(Refusal::Arity);
     }
     if !is_invertible(op, s, t, d) {
-        return Valued::Refused(Refusal::NoInverse);
+        return Err(Refusal::NoInverse);
     }
-    let Drawn::Value(v, next) = draw_inverse(op, s, t, d, words, source) else {
-        return Valued::Refused(Refusal::Dry);
-    };
-    Valued::Value(v, next)
+    draw_inverse(op, s, t, d, words, source).ok_or(Refusal::Dry)
 }
 
+// The value and the source after its words, or the refusal: 10 Arity or 12 Dry.
+#[tactic(auto, unfolding(crate::specs::Answers::consistent_answer, laws::specs::Rows::first))]
 pub fn compute_consistent_value(
     op: BVOperator,
     t: BitVector,
     d: OperandSide,
     words: &[u64],
     source: WordSource,
-) -> Valued
+) -> Result<(BitVector, WordSource), Refusal>
     ensures { answer_of result ≡ consistent_answer one op d t.0 words.now source.at }
 {
     if op.is_unary() {
-        return Valued::Refused(Refusal::Arity);
+        return Err(Refusal::Arity);
     }
-    let Drawn::Value(v, next) = draw_consistent(op, t, d, words, source) else {
-        return Valued::Refused(Refusal::Dry);
-    };
-    Valued::Value(v, next)
+    draw_consistent(op, t, d, words, source).ok_or(Refusal::Dry)
 }
 
-pub fn compute_inverse_value_for_unary_op(op: BVOperator, t: BitVector) -> Unary
+// The value, which needs no word, or the refusal: 10 Arity.
+#[tactic(auto, unfolding(crate::specs::Answers::unary_answer, laws::specs::Rows::first))]
+pub fn compute_inverse_value_for_unary_op(
+    op: BVOperator,
+    t: BitVector,
+) -> Result<BitVector, Refusal>
     ensures { unary_of result ≡ unary_answer op t.0 }
 {
     if !op.is_unary() {
-        return Unary::Refused(Refusal::Arity);
+        return Err(Refusal::Arity);
     }
-    if t.0 == 0 {
-        return Unary::Value(BitVector(1));
-    }
-    Unary::Value(BitVector(0))
+    Ok(t.is_zero())
 }
 
 // The inverse, then the choosing word; c is the consistent value.
+#[tactic(auto, unfolding(rules::specs::Rules::invert_at))]
 fn invert(
     op: BVOperator,
     s: BitVector,
@@ -97,22 +96,25 @@ fn invert(
     words: &[u64],
     c: BitVector,
     source: WordSource,
-) -> Chosen
+) -> Result<Chosen, RanDry>
     ensures { got_of result ≡ invert_at one op d s.0 t.0 words.now c.0 source.at }
 {
-    let Drawn::Value(v, next) = draw_inverse(op, s, t, d, words, source) else {
-        return Chosen::Dry(source);
+    let (v, next) = draw_inverse(op, s, t, d, words, source).ok_or(RanDry { source })?;
+    let (chosen, source) = next.choosing(words).ok_or(RanDry { source: next })?;
+    let (rule, value) = if chosen {
+        (Rule::Inverse, v)
+    } else {
+        (Rule::Consistent, c)
     };
-    let Toss::Fell(chosen, last) = next.choosing(words) else {
-        return Chosen::Dry(next);
-    };
-    if chosen {
-        return Chosen::Inverse(v, last);
-    }
-    Chosen::Consistent(c, last)
+    Ok(Chosen {
+        rule,
+        value,
+        source,
+    })
 }
 
 // "Then the consistent value is drawn; if the table says yes, the inverse, then the choosing word."
+#[tactic(auto, unfolding(rules::specs::Rules::value_at))]
 pub fn value(
     op: BVOperator,
     s: BitVector,
@@ -120,14 +122,16 @@ pub fn value(
     d: OperandSide,
     words: &[u64],
     source: WordSource,
-) -> Chosen
+) -> Result<Chosen, RanDry>
     ensures { got_of result ≡ value_at one op d s.0 t.0 words.now source.at }
 {
-    let Drawn::Value(c, next) = draw_consistent(op, t, d, words, source) else {
-        return Chosen::Dry(source);
-    };
+    let (c, next) = draw_consistent(op, t, d, words, source).ok_or(RanDry { source })?;
     if is_invertible(op, s, t, d) {
         return invert(op, s, t, d, words, c, next);
     }
-    Chosen::Consistent(c, next)
+    Ok(Chosen {
+        rule: Rule::Consistent,
+        value: c,
+        source: next,
+    })
 }
