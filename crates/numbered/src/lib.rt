@@ -16,9 +16,10 @@ fn text_byte(a: BitVector, i: u64) -> Option<u64>
 }
 
 #[tactic(auto, using(crate::proofs::Inverses::inverse_value_lem, crate::proofs::Inverses::inverse_nothing), unfolding(crate::specs::Bitvec::bitvec_op, laws::specs::Rows::first))]
-pub fn operation(op: u64, a: BitVector, b: BitVector) -> Option<u64>
-    ensures { result ≡ bitvec_op op a.0 b.0 }
+pub fn operation(op: u64, a: u64, b: u64) -> Option<u64>
+    ensures { result ≡ bitvec_op op a b }
 {
+    let (a, b) = (BitVector(a), BitVector(b));
     match op {
         0 => Some(BitVector::ones().0),
         1 => Some(a.ctz() as u64),
