@@ -5,13 +5,10 @@ use mathlib.Core.Logic.{inl, inr}
 use mathlib.Core.List.{◌++◌}
 use mathlib.Core.Bool.{Bool, true, false}
 use native.Mathlib.Omega.{arith}
+use Rattle.std.specs.Prelude.{Some, None}
 use Rattle.laws.specs.Pick.{pick}
-use Rattle.words.specs.Words.{Words, Place, choosing_at}
+use Rattle.words.specs.Words.{Draw, Drawn, Words, Place, choosing_at}
 use Rattle.words.specs.declared.WordSource.{WordSource}
-use Rattle.words.specs.declared.Draw.{Draw}
-use Rattle.words.specs.declared.Draw.TheVariants as draw
-use Rattle.words.specs.declared.Toss.{Toss}
-use Rattle.words.specs.declared.Toss.TheVariants as toss
 use Rattle.words.proofs.Draws.{Small, choosing_forward, choosing_longer}
 use Rattle.symbols.specs.Graph.{Value}
 use Rattle.symbols.specs.Operators.{apply_at}
@@ -19,7 +16,7 @@ use Rattle.symbols.specs.declared.OperandSide.{OperandSide}
 use Rattle.symbols.specs.declared.BVOperator.{BVOperator}
 use Rattle.reach.specs.Table.{table_says}
 use Rattle.existence.specs.Kinds.{FalseYes}
-use Rattle.rules.specs.Rules.{Rules, Got, took_inverse, took_consistent, stuck, after, after_toss, invert_at, value_at}
+use Rattle.rules.specs.Rules.{Rules, Got, took_inverse, took_consistent, stuck, after, invert_at, value_at}
 use Rattle.rules.specs.One.{one}
 use Rattle.promises.specs.Choice.{Consistent, Inverted, Drew, no_consistent, says_no, no_inverse, no_choice, chosen, not_chosen, Faithful, Onward, Chose}
 use Rattle.promises.proofs.Gives.{inverse_gives}
@@ -27,16 +24,16 @@ use Rattle.promises.proofs.Kept.{inverse_keeps, consistent_keeps}
 
 module _ (ρ : Rules) (o : BVOperator) (d : OperandSide) (s t : Value) (ws : Words) (n : Place) where
   -- each draw is looked at in its turn
-  at_toss : (c : Value) (p : WordSource) (v : Value) (q : WordSource) → Inverted ρ o d s t ws n c p v q → (f : Toss) → choosing_at ws q.at ≡ f
-      → Drew ρ o d s t ws n (after_toss f q.at (λ b m. pick b (took_inverse v m) (took_consistent c m)))
-  at_toss c p v q i (toss.Fell true r) e = chosen c p v q r i e
-  at_toss c p v q i (toss.Fell false r) e = not_chosen c p v q r i e
-  at_toss c p v q i toss.Dry e = no_choice c p v q i e
+  at_toss : (c : Value) (p : WordSource) (v : Value) (q : WordSource) → Inverted ρ o d s t ws n c p v q → (f : Drawn Bool) → choosing_at ws q.at ≡ f
+      → Drew ρ o d s t ws n (after f q.at (λ b m. pick b (took_inverse v m) (took_consistent c m)))
+  at_toss c p v q i (Some (true, r)) e = chosen c p v q r i e
+  at_toss c p v q i (Some (false, r)) e = not_chosen c p v q r i e
+  at_toss c p v q i None e = no_choice c p v q i e
 
   at_inverse : (c : Value) (p : WordSource) → Consistent ρ o d s t ws n c p → ρ.table o d s t ≡ true → (x : Draw) → ρ.inverse o d s t ws p.at ≡ x
-      → Drew ρ o d s t ws n (after x p.at (λ v a. after_toss (choosing_at ws a) a (λ b m. pick b (took_inverse v m) (took_consistent c m))))
-  at_inverse c p i y (draw.Word v q) e = at_toss c p v q (i, y, e) (choosing_at ws q.at) refl
-  at_inverse c p i y draw.Dry e = no_inverse c p i y e
+      → Drew ρ o d s t ws n (after x p.at (λ v a. after (choosing_at ws a) a (λ b m. pick b (took_inverse v m) (took_consistent c m))))
+  at_inverse c p i y (Some (v, q)) e = at_toss c p v q (i, y, e) (choosing_at ws q.at) refl
+  at_inverse c p i y None e = no_inverse c p i y e
 
   at_table : (c : Value) (p : WordSource) → Consistent ρ o d s t ws n c p → (b : Bool) → ρ.table o d s t ≡ b
       → Drew ρ o d s t ws n (pick b (invert_at ρ o d s t ws c p.at) (took_consistent c p.at))
@@ -45,8 +42,8 @@ module _ (ρ : Rules) (o : BVOperator) (d : OperandSide) (s t : Value) (ws : Wor
   at_table c p i false y = says_no c p i y
 
   at_consistent : (x : Draw) → ρ.consistent o d t ws n ≡ x → Drew ρ o d s t ws n (after x n (λ c a. pick (ρ.table o d s t) (invert_at ρ o d s t ws c a) (took_consistent c a)))
-  at_consistent (draw.Word c p) e = at_table c p e (ρ.table o d s t) refl
-  at_consistent draw.Dry e = no_consistent e
+  at_consistent (Some (c, p)) e = at_table c p e (ρ.table o d s t) refl
+  at_consistent None e = no_consistent e
 
   pub value_drew : Drew ρ o d s t ws n (value_at ρ o d s t ws n)
   unfolding value_at

@@ -5,17 +5,17 @@ use mathlib.Core.Bool.{Bool, true, false, not, ◌&&◌, ◌||◌, true≢false}
 use native.Mathlib.Omega.{arith}
 use lib.Dec.{ltb, eqb}
 use borrow.Author.Tests.{eqb-true, ne_eqb}
+use Rattle.std.specs.Prelude.{None}
 use Rattle.laws.specs.Pick.{pick}
 use Rattle.bitvec.specs.Word.{M, bvadd, bvsub, bvmul, bvudiv, bvand, bvor, bvnot}
 use Rattle.words.specs.Words.{draw_at, range_at, not_at, two_at, map_draw}
-use Rattle.words.specs.declared.Draw.TheVariants.{Dry}
 use Rattle.words.proofs.Draws.{draw_forward, range_forward, not_forward, two_forward, made}
 use Rattle.symbols.specs.Graph.{Value}
 use Rattle.symbols.specs.declared.OperandSide.{OperandSide}
 use Rattle.symbols.specs.declared.OperandSide.TheVariants.{Lhs, Rhs}
 use Rattle.symbols.specs.declared.BVOperator.{BVOperator}
 use Rattle.symbols.specs.declared.BVOperator.TheVariants.{Add, Sub, Mul, Divu, Sltu, Remu, Not, Equals, BitwiseAnd}
-use Rattle.rules.specs.One.{no_word, mul_value, divisor_of, inverse_at, map_pair, mul_consistent, consistent_at}
+use Rattle.rules.specs.One.{no_word, mul_value, divisor_of, inverse_at, mul_consistent, consistent_at}
 use Rattle.promises.specs.Keeps.{Rule, Takes, Told, inverse_free, consistent_free}
 use Rattle.promises.proofs.Splits.{never, made_two}
 
@@ -34,14 +34,14 @@ told_range a b = told_takes (λ ws n. range_at ws n a b) (λ ws n v q e. (range_
 told_not : (s : Value) → Told false (λ ws n. not_at ws n s)
 told_not s = told_takes (λ ws n. not_at ws n s) (λ ws n v q e. (not_forward ws s v q n e).moved)
 
-told_dry : Told false (λ ws n. Dry)
-told_dry = told_takes (λ ws n. Dry) (λ ws n v q e. never v q e)
+told_dry : Told false (λ ws n. None)
+told_dry = told_takes (λ ws n. None) (λ ws n v q e. never v q e)
 
 told_map : (g : Value → Value) (f : Rule) → Told false f → Told false (λ ws n. map_draw g (f ws n))
 told_map g f h = told_takes (λ ws n. map_draw g (f ws n)) (λ ws n v q e. let m = made g (f ws n) v q e in h.some refl ws n m.0 q m.1)
 
-told_two : (g : Value → Value → Value) → Told false (λ ws n. map_pair g (two_at ws n))
-told_two g = told_takes (λ ws n. map_pair g (two_at ws n)) (λ ws n v q e. let m = made_two g (two_at ws n) v q e in (two_forward ws m.0 m.1 q n m.2).moved)
+told_two : (g : Value → Value → Value) → Told false (λ ws n. map_draw (λ p. g p.0 p.1) (two_at ws n))
+told_two g = told_takes (λ ws n. map_draw (λ p. g p.0 p.1) (two_at ws n)) (λ ws n v q e. let m = made_two g (two_at ws n) v q e in (two_forward ws m.0 m.1 q n m.2).moved)
 
 told_pick : (c a b : Bool) (f g : Rule) → Told a f → Told b g → Told (pick c a b) (λ ws n. pick c (f ws n) (g ws n))
 told_pick true a b f g x y = x

@@ -10,6 +10,7 @@ use lib.Dec.{ltb, eqb}
 use lib.Arith.{digits_mod}
 use lib.Bits.{and_comm}
 use borrow.Author.Tests.{eqb-true, eqb-false, eq-eqb, ne_eqb, not-true, ltb-true, leb-true, lt-ltb, le-ltb}
+use Rattle.std.specs.Prelude.{Some}
 use Rattle.laws.specs.Pick.{pick}
 use Rattle.bitvec.specs.Word.{M, bvadd, bvsub, bvmul, bvudiv, bvurem, sltu, equals, bvand, bvor, bvnot, bvlshr, ctz}
 use Rattle.bitvec.specs.Inverse.{inverse_of}
@@ -17,7 +18,6 @@ use Rattle.bitvec.proofs.Inverses.{div_is, rem_is}
 use Rattle.bitvec.proofs.Laws.{odd_part, inverse_is, mul_inverse, mul_inverse_lem, mul_zero_inverse, and_inverse_word}
 use Rattle.words.specs.Words.{Words, Place, draw_at, range_at}
 use Rattle.words.specs.declared.WordSource.{WordSource}
-use Rattle.words.specs.declared.Draw.TheVariants.{Word}
 use Rattle.words.proofs.Draws.{Small, draw_small, range_within, not_is, made}
 use Rattle.symbols.specs.Graph.{Value}
 use Rattle.symbols.specs.Operators.{apply_at}
@@ -71,10 +71,10 @@ divisor_draw s t w hs l h = go (eqb (D % k) 0 && ltb t (D / k)) refl
     go false e = record { times = 1; divides = omega (arith, is); above = omega (arith, is) }
 
 module _ (s t : Value) (hs : s < 2 ^ 64) (ht : t < 2 ^ 64) (ws : Words) (small : Small ws) (n : Place) (v : Value) (q : WordSource) where
-  word : {w : ℕ} → draw_at ws n ≡ Word w q → w < 2 ^ 64
+  word : {w : ℕ} → draw_at ws n ≡ Some (w, q) → w < 2 ^ 64
   word {w} = draw_small ws n w q small
 
-  mul_gives : (d : OperandSide) → table_says Mul d s t ≡ true → inverse_at Mul d s t ws n ≡ Word v q → bvmul v s ≡ t
+  mul_gives : (d : OperandSide) → table_says Mul d s t ≡ true → inverse_at Mul d s t ws n ≡ Some (v, q) → bvmul v s ≡ t
   unfolding table_says inverse_at mul_value
   mul_gives d y e =
       let m = made (mul_value s t) (draw_at ws n) v q e in
@@ -85,7 +85,7 @@ module _ (s t : Value) (hs : s < 2 ^ 64) (ht : t < 2 ^ 64) (ws : Words) (small :
       ap (λ (x : ℕ). bvmul x s) is ∙ mul_inverse_lem s t (inverse_of (bvlshr s (ctz s))) m.0 p hs ht test (inverse_is (bvlshr s (ctz s)) (odd_part s p hs).odd))
       (eq-zero-or-pos s)
 
-  div_left : table_says Divu Lhs s t ≡ true → inverse_at Divu Lhs s t ws n ≡ Word v q → bvudiv v s ≡ t
+  div_left : table_says Divu Lhs s t ≡ true → inverse_at Divu Lhs s t ws n ≡ Some (v, q) → bvudiv v s ≡ t
   unfolding table_says inverse_at
   div_left y e =
       split (eqb s 0) e
@@ -101,7 +101,7 @@ module _ (s t : Value) (hs : s < 2 ^ 64) (ht : t < 2 ^ 64) (ws : Words) (small :
       let r = range_within ws n (bvmul t s) (min M (bvmul t s + (s - 1))) v q (omega (arith, min-le_left M (bvmul t s + (s - 1)))) small g in
       div_is v s p ∙ div-eq_of_lt-le s (omega (arith, r.0)) (omega (arith, r.1, min-le_right M (bvmul t s + (s - 1))))))
 
-  div_right : table_says Divu Rhs s t ≡ true → (FalseYes Divu Rhs s t → ⊥) → inverse_at Divu Rhs s t ws n ≡ Word v q → bvudiv s v ≡ t
+  div_right : table_says Divu Rhs s t ≡ true → (FalseYes Divu Rhs s t → ⊥) → inverse_at Divu Rhs s t ws n ≡ Some (v, q) → bvudiv s v ≡ t
   unfolding table_says inverse_at
   div_right y k e =
       split (eqb t M && eqb s M) e
@@ -134,7 +134,7 @@ module _ (s t : Value) (hs : s < 2 ^ 64) (ht : t < 2 ^ 64) (ws : Words) (small :
             | no z ↦ absurd (k (inl (at_divu p (omega arith) l z)))
           ]
 
-  sltu_left : table_says Sltu Lhs s t ≡ true → (1 < t → ⊥) → inverse_at Sltu Lhs s t ws n ≡ Word v q → sltu v s ≡ t
+  sltu_left : table_says Sltu Lhs s t ≡ true → (1 < t → ⊥) → inverse_at Sltu Lhs s t ws n ≡ Some (v, q) → sltu v s ≡ t
   unfolding table_says inverse_at
   sltu_left y k e =
       split (eqb t 0) e
@@ -144,7 +144,7 @@ module _ (s t : Value) (hs : s < 2 ^ 64) (ht : t < 2 ^ 64) (ws : Words) (small :
       let ne : s ≡ 0 → ⊥ = eqb-false s 0 (not-true (eqb s 0) (after_false (eqb t 0) _ c y)) in
       sltu_one v s (omega (arith, (range_within ws n 0 (bvsub s 1) v q (omega arith) small f).1)) ∙ omega arith)
 
-  sltu_right : table_says Sltu Rhs s t ≡ true → (1 < t → ⊥) → inverse_at Sltu Rhs s t ws n ≡ Word v q → sltu s v ≡ t
+  sltu_right : table_says Sltu Rhs s t ≡ true → (1 < t → ⊥) → inverse_at Sltu Rhs s t ws n ≡ Some (v, q) → sltu s v ≡ t
   unfolding table_says inverse_at
   sltu_right y k e =
       split (eqb t 0) e
@@ -154,7 +154,7 @@ module _ (s t : Value) (hs : s < 2 ^ 64) (ht : t < 2 ^ 64) (ws : Words) (small :
       let ne : s ≡ M → ⊥ = eqb-false s M (not-true (eqb s M) (after_false (eqb t 0) _ c y)) in
       sltu_one s v (omega (arith, (range_within ws n (bvadd s 1) M v q (omega arith) small f).0)) ∙ omega arith)
 
-  rem_left : table_says Remu Lhs s t ≡ true → inverse_at Remu Lhs s t ws n ≡ Word v q → bvurem v s ≡ t
+  rem_left : table_says Remu Lhs s t ≡ true → inverse_at Remu Lhs s t ws n ≡ Some (v, q) → bvurem v s ≡ t
   unfolding table_says inverse_at
   rem_left y e =
       let l : t < s = ltb-true t s y in
@@ -178,7 +178,7 @@ module _ (s t : Value) (hs : s < 2 ^ 64) (ht : t < 2 ^ 64) (ws : Words) (small :
       most_small : 0 < s → most < 2 ^ 64
       most_small p = omega (arith, most_is p, div-le_self (M - t) s)
 
-  rem_right : table_says Remu Rhs s t ≡ true → inverse_at Remu Rhs s t ws n ≡ Word v q → bvurem s v ≡ t
+  rem_right : table_says Remu Rhs s t ≡ true → inverse_at Remu Rhs s t ws n ≡ Some (v, q) → bvurem s v ≡ t
   unfolding table_says inverse_at
   rem_right y e =
       split (eqb s t) e
@@ -200,13 +200,13 @@ module _ (s t : Value) (hs : s < 2 ^ 64) (ht : t < 2 ^ 64) (ws : Words) (small :
       same z x l true c i = rw i z
       same z x l false c i = let ne = eqb-false x t c in rw i (rem_is s x (omega arith) ∙ mod-eq_of_lt (omega arith) ∙ z)
 
-  and_gives : (d : OperandSide) → table_says BitwiseAnd d s t ≡ true → inverse_at BitwiseAnd d s t ws n ≡ Word v q → bvand v s ≡ t
+  and_gives : (d : OperandSide) → table_says BitwiseAnd d s t ≡ true → inverse_at BitwiseAnd d s t ws n ≡ Some (v, q) → bvand v s ≡ t
   unfolding table_says inverse_at
   and_gives d y e =
       let m = made (λ w. bvor (bvand w (bvnot s)) t) (draw_at ws n) v q e in
       ap (λ (x : ℕ). bvand x s) m.2 ∙ and_inverse_word s t m.0 hs ht (word m.1) (eqb-true _ t y)
 
-  equals_left : (d : OperandSide) → (1 < t → ⊥) → inverse_at Equals d s t ws n ≡ Word v q → (t ≡ 0 → v ≡ s → ⊥) × ((t ≡ 0 → ⊥) → (v ≡ s) × (t ≡ 1))
+  equals_left : (d : OperandSide) → (1 < t → ⊥) → inverse_at Equals d s t ws n ≡ Some (v, q) → (t ≡ 0 → v ≡ s → ⊥) × ((t ≡ 0 → ⊥) → (v ≡ s) × (t ≡ 1))
   unfolding inverse_at
   equals_left d k e =
       split (eqb t 0) e
@@ -220,7 +220,7 @@ module _ (s t : Value) (hs : s < 2 ^ 64) (ht : t < 2 ^ 64) (ws : Words) (small :
         | no z ↦ let r = g z in rw (eq-eqb x y r.0) (sym r.1)
       ]
 
-  pub inverse_gives : (o : BVOperator) (d : OperandSide) → table_says o d s t ≡ true → (FalseYes o d s t → ⊥) → inverse_at o d s t ws n ≡ Word v q → apply_at o d v s ≡ t
+  pub inverse_gives : (o : BVOperator) (d : OperandSide) → table_says o d s t ≡ true → (FalseYes o d s t → ⊥) → inverse_at o d s t ws n ≡ Some (v, q) → apply_at o d v s ≡ t
   unfolding inverse_at
   inverse_gives Add Lhs y k e = let i = is_value _ n v q e in omega arith
   inverse_gives Add Rhs y k e = let i = is_value _ n v q e in omega arith

@@ -7,11 +7,11 @@ use native.Mathlib.Nat.{div-le_self, min-le_left, lt_of_le_of_lt}
 use native.Mathlib.Omega.{arith}
 use lib.Dec.{ltb, eqb}
 use lib.Bits.{and_le_l, or_lt}
+use Rattle.std.specs.Prelude.{Some, None}
 use Rattle.laws.specs.Pick.{pick}
 use Rattle.bitvec.specs.Word.{M, bvadd, bvsub, bvmul, bvudiv, bvand, bvor, bvnot, bvlshr, ctz}
 use Rattle.bitvec.specs.Inverse.{inverse_of}
 use Rattle.words.specs.Words.{draw_at, range_at, not_at, two_at, map_draw}
-use Rattle.words.specs.declared.Draw.TheVariants.{Word, Dry}
 use Rattle.words.proofs.Draws.{draw_forward, draw_small, draw_longer, range_forward, range_within, range_longer, not_forward, not_small, not_longer, two_forward, two_small, two_longer, made}
 use Rattle.words.proofs.Enough.{draw_enough, draw_fewer, range_enough, range_fewer, not_enough, not_fewer, two_enough, two_fewer}
 use Rattle.symbols.specs.Graph.{Value}
@@ -19,7 +19,7 @@ use Rattle.symbols.specs.declared.OperandSide.{OperandSide}
 use Rattle.symbols.specs.declared.OperandSide.TheVariants.{Lhs, Rhs}
 use Rattle.symbols.specs.declared.BVOperator.{BVOperator}
 use Rattle.symbols.specs.declared.BVOperator.TheVariants.{Add, Sub, Mul, Divu, Sltu, Remu, Not, Equals, BitwiseAnd}
-use Rattle.rules.specs.One.{no_word, mul_value, divisor_of, inverse_at, map_pair, mul_consistent, consistent_at}
+use Rattle.rules.specs.One.{no_word, mul_value, divisor_of, inverse_at, mul_consistent, consistent_at}
 use Rattle.promises.specs.Keeps.{Rule, Keeps}
 use Rattle.promises.proofs.Splits.{never, is_value, is_place, made_two}
 
@@ -30,7 +30,7 @@ none_keeps x h ws k n v q e =
     let p = is_place x n v q e in
     record { small = omega arith; moves = inl p; longer = λ us. e; enough = λ m l. e; fewer = λ m a b. absurd (omega arith) }
 
-dry_keeps : Keeps (λ ws n. Dry)
+dry_keeps : Keeps (λ ws n. None)
 dry_keeps ws k n v q e = never v q e
 
 -- a word, a range, words until one is not s
@@ -70,12 +70,12 @@ map_keeps g f h keeps ws k n v q e =
     record {
       small = rw m.2 (h m.0 r.small);
       moves = r.moves;
-      longer = λ us. rw (r.longer us) (ap (λ (x : ℕ). Word x q) is);
-      enough = λ j l. rw (r.enough j l) (ap (λ (x : ℕ). Word x q) is);
+      longer = λ us. rw (r.longer us) (ap (λ (x : ℕ). Some (x, q)) is);
+      enough = λ j l. rw (r.enough j l) (ap (λ (x : ℕ). Some (x, q)) is);
       fewer = λ j a b. rw (r.fewer j a b);
     }
 
-two_keeps : (g : Value → Value → Value) → ((x y : Value) → x < 2 ^ 64 → y < 2 ^ 64 → g x y < 2 ^ 64) → Keeps (λ ws n. map_pair g (two_at ws n))
+two_keeps : (g : Value → Value → Value) → ((x y : Value) → x < 2 ^ 64 → y < 2 ^ 64 → g x y < 2 ^ 64) → Keeps (λ ws n. map_draw (λ p. g p.0 p.1) (two_at ws n))
 two_keeps g h ws k n v q e =
     let m = made_two g (two_at ws n) v q e in
     let s = two_small ws m.0 m.1 q n k m.2 in
@@ -83,8 +83,8 @@ two_keeps g h ws k n v q e =
     record {
       small = rw m.3 (h m.0 m.1 s.0 s.1);
       moves = inr (two_forward ws m.0 m.1 q n m.2);
-      longer = λ us. rw (two_longer ws m.0 m.1 q n us m.2) (ap (λ (x : ℕ). Word x q) is);
-      enough = λ j l. rw (two_enough ws m.0 m.1 q j n m.2 l) (ap (λ (x : ℕ). Word x q) is);
+      longer = λ us. rw (two_longer ws m.0 m.1 q n us m.2) (ap (λ (x : ℕ). Some (x, q)) is);
+      enough = λ j l. rw (two_enough ws m.0 m.1 q j n m.2 l) (ap (λ (x : ℕ). Some (x, q)) is);
       fewer = λ j a b. rw (two_fewer ws m.0 m.1 q j n m.2 b);
     }
 

@@ -1,11 +1,9 @@
 -- What every rule keeps to, whatever the edition: document 01, "values are 0..M" and "Words taken count … every value … drawn to its
 -- end … ; a value left unfinished counts none of its words." Assumes nothing.
-use Rattle.std.specs.Prelude.{ℕ, ◌^◌, ◌≤◌, ◌<◌, ◌≡◌, ◌⊎◌, ◌++◌, Bool, true, false, not, ◌&&◌, ltb, eqb, take}
+use Rattle.std.specs.Prelude.{Some, None, ℕ, ◌^◌, ◌≤◌, ◌<◌, ◌≡◌, ◌⊎◌, ◌++◌, Bool, true, false, not, ◌&&◌, ltb, eqb, take}
 use Rattle.bitvec.specs.Word.{M, bvsub, bvudiv}
-use Rattle.words.specs.Words.{Words, Place}
+use Rattle.words.specs.Words.{Draw, Words, Place}
 use Rattle.words.specs.declared.WordSource.{WordSource}
-use Rattle.words.specs.declared.Draw.{Draw}
-use Rattle.words.specs.declared.Draw.TheVariants.{Word, Dry}
 use Rattle.rules.specs.One.{no_word}
 use Rattle.words.proofs.Draws.{Small, Forward}
 use Rattle.symbols.specs.Graph.{Value}
@@ -25,14 +23,14 @@ pub record Kept (f : Rule) (ws : Words) (n : Place) (v : Value) (q : WordSource)
   -- the source stays, or moves forward within the list
   pub moves : (q.at ≡ n) ⊎ Forward ws n q.at
   -- on every longer list the answer is the same
-  pub longer : (us : Words) → f (ws ++ us) n ≡ Word v q
+  pub longer : (us : Words) → f (ws ++ us) n ≡ Some (v, q)
   -- the words up to q are enough: no further one was taken
-  pub enough : (m : ℕ) → q.at ≤ m → f (take m ws) n ≡ Word v q
+  pub enough : (m : ℕ) → q.at ≤ m → f (take m ws) n ≡ Some (v, q)
   -- with fewer words it runs dry: all those up to q were taken
-  pub fewer : (m : ℕ) → n < q.at → m < q.at → f (take m ws) n ≡ Dry
+  pub fewer : (m : ℕ) → n < q.at → m < q.at → f (take m ws) n ≡ None
 
 abbrev pub Keeps : Rule → Type 0
-Keeps f = (ws : Words) → Small ws → (n : Place) (v : Value) (q : WordSource) → f ws n ≡ Word v q → Kept f ws n v q
+Keeps f = (ws : Words) → Small ws → (n : Place) (v : Value) (q : WordSource) → f ws n ≡ Some (v, q) → Kept f ws n v q
 
 -- the rule has one value, on every list
 abbrev pub Constant : Rule → Type 0
@@ -40,7 +38,7 @@ Constant f = (v : Value) × ((ws : Words) (n : Place) → f ws n ≡ no_word v n
 
 -- the rule takes words
 abbrev pub Takes : Rule → Type 0
-Takes f = (ws : Words) (n : Place) (v : Value) (q : WordSource) → f ws n ≡ Word v q → n < q.at
+Takes f = (ws : Words) (n : Place) (v : Value) (q : WordSource) → f ws n ≡ Some (v, q) → n < q.at
 
 -- b says whether it takes none
 pub record Told (b : Bool) (f : Rule) : Type 0 where
