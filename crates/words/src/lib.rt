@@ -1,7 +1,7 @@
 #![tactic(auto)]
 // The word source, which replaces thread_rng: a place in a lent list of words. "a word source that has given a word is a new word
-// source, and a draw answers either the words and the source after them, or Dry". Dry carries no source: the caller still has its
-// own, unmoved.
+// source, and a draw answers either the words and the source after them, or Dry". Dry is None: the caller still has its own
+// source, unmoved.
 ghost use Rattle.std.specs.Prelude.{◌≡◌, ◌+◌, ◌<◌};
 ghost use Rattle.words.specs.Words.{draw_at, multiple, even_at, range_at, coin_at, choosing_at, two_at, not_at, redraw_at, KeepsRest};
 
@@ -62,14 +62,11 @@ impl WordSource {
     pub fn range(self, words: &[u64], a: u64, b: u64) -> Drawn<u64>
         ensures { result ≡ range_at words.now self.at a b }
     {
-        if b < a {
-            return None;
-        }
-        let most = b - a;
-        if most == u64::MAX {
+        let most = b.checked_sub(a)?;
+        // Of everything no word is discarded.
+        let Some(m) = most.checked_add(1) else {
             return self.draw(words);
-        }
-        let m = most + 1;
+        };
         let (w, next) = self.even(words, m)?;
         Some((a + w % m, next))
     }
