@@ -120,7 +120,7 @@ fn check_records(formula: &FormulaView) -> Result<(), Refusal>
 {
     for i in 0..formula.count() {
         let id = SymbolId(i);
-        check_record(formula.record(id), formula.count(), id)?;
+        check_record(formula.lookup(id), formula.count(), id)?;
     }
     Ok(())
 }

@@ -37,7 +37,7 @@ impl FormulaView<'_> {
 
     // "the record of a node is those sixteen bytes of the file itself": of an id not below the count the empty part, and of a
     // formula that is not the file's own what the file has there.
-    pub fn record(&self, id: SymbolId) -> &[u8]
+    pub fn lookup(&self, id: SymbolId) -> &[u8]
         ensures { result.now ≡ record_at self.now.file.now self.now.layout id.0 }
     {
         if self.layout.count <= id.0 {
@@ -58,7 +58,7 @@ impl FormulaView<'_> {
     pub fn node(&self, id: SymbolId) -> Node
         ensures { node_is result ≡ (graph self.now).node id.0 }
     {
-        let record = self.record(id);
+        let record = self.lookup(id);
         decode(record_kind(record), record)
     }
 

@@ -1,7 +1,7 @@
--- `formula::view::FormulaView::record` meets its contract. Assumes nothing.
+-- `formula::view::FormulaView::lookup` meets its contract. Assumes nothing.
 use Rattle.std.proofs.Common.{arith, rules}
 use Rattle.formula.proofs.Reading.{record_none, record_cut}
-use Rattle.formula.proofs.view.FormulaView.record.Goals as goal
+use Rattle.formula.proofs.view.FormulaView.lookup.Goals as goal
 
 pub returns-then-self-id : goal.returns-then-self-id
 returns-then-self-id c = search (record_none, rules)
