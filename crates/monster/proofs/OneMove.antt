@@ -1,20 +1,27 @@
 -- One answer for every input: the maps from the code's answers to the definitions' are injective. Assumes nothing.
 use mathlib.Core.Path.{◌≡◌, refl, sym, ap, ◌∙◌}
+use Rattle.std.specs.Prelude.{Option, Some, None, Result, Ok, Err}
 use Rattle.words.specs.Words.{from}
+use Rattle.words.specs.declared.WordSource.{WordSource}
+use Rattle.symbols.specs.declared.OperandSide.{OperandSide}
 use Rattle.search.specs.Machine as machine
 use Rattle.search.specs.Machine.{by_not, inverse, consistent, Step, to, dry}
-use Rattle.monster.specs.declared.Selected.{Selected}
-use Rattle.monster.specs.declared.Selected.TheVariants as selected
+use Rattle.values.specs.declared.RanDry.{RanDry}
+use Rattle.monster.specs.declared.Walk.{Walk}
 use Rattle.monster.specs.declared.Choice.{Choice}
 use Rattle.monster.specs.declared.Choice.TheVariants as choice
-use Rattle.monster.specs.declared.Move.{Move}
-use Rattle.monster.specs.declared.Move.TheVariants as move
 use Rattle.monster.specs.Step.{Way, way, no_way, way_of, choice_of, step_of}
+
+abbrev pub Selected : Type 0
+Selected = Option (OperandSide × WordSource)
+
+abbrev pub Move : Type 0
+Move = Result (Walk × Choice) RanDry
 
 -- read back
 unfoldable pub selected_from : Way → Selected
-selected_from (way d n) = selected.Operand d (from n)
-selected_from no_way = selected.NoCoin
+selected_from (way d n) = Some (d, from n)
+selected_from no_way = None
 
 unfoldable pub choice_from : machine.Choice → Choice
 choice_from by_not = choice.Not
@@ -23,13 +30,13 @@ choice_from (consistent d) = choice.Consistent d
 
 unfoldable pub move_from : Step → Move
 unfolding choice_from
-move_from (to x u n c) = move.To record { node = record { 0 = x }; target = record { 0 = u }; source = from n } (choice_from c)
-move_from (dry n) = move.Dry (from n)
+move_from (to x u n c) = Ok (record { node = record { 0 = x }; target = record { 0 = u }; source = from n }, choice_from c)
+move_from (dry n) = Err record { source = from n }
 
 way_told : (p : Selected) → selected_from (way_of p) ≡ p
 unfolding selected_from
-way_told (selected.Operand d s) = refl
-way_told selected.NoCoin = refl
+way_told (Some (d, s)) = refl
+way_told None = refl
 
 choice_told : (c : Choice) → choice_from (choice_of c) ≡ c
 unfolding choice_from
@@ -39,8 +46,8 @@ choice_told (choice.Consistent d) = refl
 
 move_told : (p : Move) → move_from (step_of p) ≡ p
 unfolding move_from
-move_told (move.To w c) = ap (move.To w) (choice_told c)
-move_told (move.Dry s) = refl
+move_told (Ok (w, c)) = ap (λ (x : Choice). Ok (w, x)) (choice_told c)
+move_told (Err e) = refl
 
 pub way_injective : (p q : Selected) → way_of p ≡ way_of q → p ≡ q
 way_injective p q e = sym (way_told p) ∙ ap selected_from e ∙ way_told q

@@ -1,12 +1,11 @@
 -- Document 01, "Choice, round, search": one step, over the abstract graph and any edition's rules; and the play that the search is
 -- over. Assumes nothing.
-use Rattle.std.specs.Prelude.{List, [], ◌∷◌, Bool, true, false}
+use Rattle.std.specs.Prelude.{List, [], ◌∷◌, Bool, true, false, Option, Some, None, Result, Ok, Err}
 use Rattle.laws.specs.Pick.{pick}
 use Rattle.laws.specs.Rows.{Row, row, first}
 use Rattle.bitvec.specs.Word.{is_zero}
-use Rattle.words.specs.Words.{Words, Place, coin_at}
-use Rattle.words.specs.declared.Toss.{Toss}
-use Rattle.words.specs.declared.Toss.TheVariants as toss
+use Rattle.words.specs.Words.{Words, Place, Drawn, coin_at}
+use Rattle.words.specs.declared.WordSource.{WordSource}
 use Rattle.symbols.specs.Graph.{Id, Value, Node, constant, input, unary, binary, Graph}
 use Rattle.symbols.specs.Operators.{other_side, by_side}
 use Rattle.symbols.specs.declared.OperandSide.{OperandSide}
@@ -16,12 +15,10 @@ use Rattle.search.specs.Machine as machine
 use Rattle.search.specs.Machine.{Values, value_of, by_not, inverse, consistent, Step, to, dry, Play, with_redo}
 use Rattle.rules.specs.Rules.{Rules, Got, took_inverse, took_consistent, stuck, value_at}
 use Rattle.assign.specs.Settle.{settle, along}
-use Rattle.monster.specs.declared.Selected.{Selected}
-use Rattle.monster.specs.declared.Selected.TheVariants as selected
+use Rattle.values.specs.declared.RanDry.{RanDry}
+use Rattle.monster.specs.declared.Walk.{Walk}
 use Rattle.monster.specs.declared.Choice.{Choice}
 use Rattle.monster.specs.declared.Choice.TheVariants as choice
-use Rattle.monster.specs.declared.Move.{Move}
-use Rattle.monster.specs.declared.Move.TheVariants as move
 
 -- what a step looks at, beside the words
 pub record Here : Type 0 where
@@ -46,9 +43,9 @@ pub data Way : Type 0 where
   no_way : Way
 
 -- "else coin, true for right"
-abbrev pub coin_way : Toss → Way
-coin_way (toss.Fell right s) = way (pick right Rhs Lhs) s.at
-coin_way toss.Dry = no_way
+abbrev pub coin_way : Drawn Bool → Way
+coin_way (Some (right, s)) = way (pick right Rhs Lhs) s.at
+coin_way None = no_way
 
 -- "left constant, take right; else right constant, take left; else left if essential, else right if essential"
 unfoldable pub sides : Here → BVOperator → Id → Id → Value → Place → List (Row Way)
@@ -98,15 +95,15 @@ abbrev pub play_along : Rules → Graph → List Id → Words → Play
 play_along ρ g order ws = with_redo (play_of ρ g ws) (along g order)
 
 -- the code's answers in these terms
-abbrev pub way_of : Selected → Way
-way_of (selected.Operand d s) = way d s.at
-way_of selected.NoCoin = no_way
+abbrev pub way_of : Option (OperandSide × WordSource) → Way
+way_of (Some (d, s)) = way d s.at
+way_of None = no_way
 
 abbrev pub choice_of : Choice → machine.Choice
 choice_of choice.Not = by_not
 choice_of (choice.Inverse d) = inverse d
 choice_of (choice.Consistent d) = consistent d
 
-abbrev pub step_of : Move → Step
-step_of (move.To w c) = to w.node.0 w.target.0 w.source.at (choice_of c)
-step_of (move.Dry s) = dry s.at
+abbrev pub step_of : Result (Walk × Choice) RanDry → Step
+step_of (Ok (w, c)) = to w.node.0 w.target.0 w.source.at (choice_of c)
+step_of (Err e) = dry e.source.at
