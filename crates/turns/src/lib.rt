@@ -1,15 +1,16 @@
 #![tactic(auto)]
 // The search: turns while steps are left. A turn is a step and, where it comes to a leaf, the end of the round.
-ghost use Rattle.std.specs.Prelude.{◌≡◌, [], ◌≤◌, ◌<◌};
-ghost use Rattle.formula.specs.Graph.{graph_of};
-ghost use Rattle.search.specs.Machine.{round, missed, landing_at, reached, turn_of, run_from, begin, search_of};
+ghost use Rattle.std.specs.Prelude.{◌≡◌, [], ◌-◌, ◌≤◌, ◌<◌};
+ghost use Rattle.formula.specs.View.{graph};
+ghost use Rattle.search.specs.Machine.{round, missed, landing_at, reached, turn_of, run_from, search_of};
 ghost use Rattle.rules.specs.One.{one};
 ghost use Rattle.monster.specs.Step.{play_along};
-ghost use Rattle.turns.specs.Turn.{st_of, out_of, next_of};
+ghost use Rattle.turns.specs.Turn.{st_of, outcome_of, out_of, next_of};
 
 use bitvec::BitVector;
-use formula::{Formula, Node};
-use monster::{Move, Walk};
+use formula::{FormulaView, Node};
+use monster::Walk;
+use std::ops::ControlFlow;
 use symbols::SymbolId;
 use words::WordSource;
 
@@ -38,212 +39,168 @@ pub struct Outcome {
     pub words: usize,
 }
 
-// After a turn the search is over, or goes on.
-#[derive(Drop)]
-enum Turn {
-    Done(Outcome),
-    On(State),
+impl State {
+    // The search over, where it stands.
+    fn ended(self, end: End) -> Outcome
+        ensures { result ≡ outcome_of end self }
+    {
+        Outcome {
+            end,
+            rounds: self.rounds,
+            lost: self.lost,
+            steps: self.steps,
+            words: self.walk.source.at,
+        }
+    }
 }
 
 // "Rounds start while the root is not 1", and each "starts at the root with target 1".
-fn next_round(values: &[u64], root: SymbolId, s: State) -> Turn
+#[tactic(auto, unfolding(search::specs::Machine::round))]
+fn next_round(values: &[u64], root: SymbolId, s: State) -> ControlFlow<Outcome, State>
     ensures { next_of result values.now ≡ round root.0 (st_of s values.now) }
 {
-    let walk = s.walk;
-    let source = walk.source;
-    let v = assign::value_at(values, root);
-    if v.0 == 1 {
-        return Turn::Done(Outcome {
-            end: End::Solved,
-            rounds: s.rounds,
-            lost: s.lost,
-            steps: s.steps,
-            words: source.at,
-        });
+    if assign::value_at(values, root).0 == 1 {
+        return ControlFlow::Break(s.ended(End::Solved));
     }
-    Turn::On(State {
-        walk: Walk {
-            node: root,
-            target: BitVector(1),
-            source: source,
-        },
-        rounds: s.rounds,
-        lost: s.lost,
-        steps: s.steps,
-    })
+    let walk = Walk {
+        node: root,
+        target: BitVector(1),
+        ..s.walk
+    };
+    ControlFlow::Continue(State { walk, ..s })
 }
 
 // "a lost round: nothing changes, the search goes on"
-fn lose(values: &[u64], root: SymbolId, s: State) -> Turn
-    requires { (s.rounds < 0xffff_ffff) × (s.lost < 0xffff_ffff) }
+fn lose(values: &[u64], root: SymbolId, s: State) -> ControlFlow<Outcome, State>
+    requires rounds { s.rounds < u32.MAX }
+    requires lost { s.lost < u32.MAX }
     ensures { next_of result values.now ≡ round root.0 (missed (st_of s values.now)) }
 {
-    let walk = s.walk;
-    next_round(
-        values,
-        root,
-        State {
-            walk: walk,
-            rounds: s.rounds + 1,
-            lost: s.lost + 1,
-            steps: s.steps,
-        },
-    )
+    let after = State {
+        rounds: s.rounds + 1,
+        lost: s.lost + 1,
+        ..s
+    };
+    next_round(values, root, after)
 }
 
 // What reaching a node means. No words are taken, so those of the play do not matter.
-fn land(file: &[u8], m: Formula, order: &[u32], values: &mut [u64], s: State) -> Turn
-    requires { (s.rounds < 0xffff_ffff) × (s.lost < 0xffff_ffff) }
-    ensures { next_of result values.new ≡ reached (play_along one (graph_of file.now m) order.now []) (landing_at (graph_of file.now m) (st_of s values.old)) (st_of s values.old) }
+#[tactic(auto, unfolding(search::specs::Machine::reached, formula::specs::Graph::graph_of))]
+fn land(
+    formula: &FormulaView,
+    order: &[u32],
+    values: &mut [u64],
+    s: State,
+) -> ControlFlow<Outcome, State>
+    requires rounds { s.rounds < u32.MAX }
+    requires lost { s.lost < u32.MAX }
+    ensures { next_of result values.new ≡ reached (play_along one (graph formula.now) order.now []) (landing_at (graph formula.now) (st_of s values.old)) (st_of s values.old) }
 {
-    let walk = s.walk;
-    let id = walk.node;
-    match formula::node_at(file, m, id) {
-        Node::Constant(v) => lose(values, m.root, s),
+    let root = formula.root();
+    let id = s.walk.node;
+    match formula.node(id) {
+        Node::Constant(_) => lose(values, root, s),
         Node::Input(p) => {
-            let t = walk.target;
+            let t = s.walk.target;
             if p.fits(t) {
-                assign::update_assignment(file, m, order, values, id, t);
-                next_round(
-                    values,
-                    m.root,
-                    State {
-                        walk: walk,
-                        rounds: s.rounds + 1,
-                        lost: s.lost,
-                        steps: s.steps,
-                    },
-                )
+                assign::update_assignment(formula, order, values, id, t);
+                let after = State {
+                    rounds: s.rounds + 1,
+                    ..s
+                };
+                next_round(values, root, after)
             } else {
-                lose(values, m.root, s)
+                lose(values, root, s)
             }
         }
-        Node::Unary(a) => Turn::On(s),
-        Node::Binary(op, a, b) => Turn::On(s),
+        Node::Unary(_) | Node::Binary(..) => ControlFlow::Continue(s),
     }
 }
 
+#[tactic(auto, unfolding(search::specs::Machine::turn_of, search::specs::Machine::stepped, search::specs::Machine::reached))]
 fn take_turn(
-    file: &[u8],
-    m: Formula,
+    formula: &FormulaView,
     order: &[u32],
     words: &[u64],
     values: &mut [u64],
     s: State,
-) -> Turn
-    requires { (s.rounds ≤ s.steps) × (s.lost ≤ s.rounds) × (s.steps < 0xffff_ffff) }
-    ensures { next_of result values.new ≡ turn_of (play_along one (graph_of file.now m) order.now words.now) (st_of s values.old) }
+) -> ControlFlow<Outcome, State>
+    requires rounds { s.rounds ≤ s.steps }
+    requires lost { s.lost ≤ s.rounds }
+    requires steps { s.steps < u32.MAX }
+    ensures { next_of result values.new ≡ turn_of (play_along one (graph formula.now) order.now words.now) (st_of s values.old) }
 {
-    let walk = s.walk;
-    match monster::step(file, m, values, words, walk) {
-        Move::To(next, choice) => land(
-            file,
-            m,
-            order,
-            values,
-            State {
-                walk: next,
-                rounds: s.rounds,
-                lost: s.lost,
+    match monster::step(formula, values, words, s.walk) {
+        Ok((walk, _)) => {
+            let after = State {
+                walk,
                 steps: s.steps + 1,
-            },
-        ),
-        Move::Dry(source) => Turn::Done(Outcome {
-            end: End::Dry,
-            rounds: s.rounds,
-            lost: s.lost,
-            steps: s.steps,
-            words: source.at,
+                ..s
+            };
+            land(formula, order, values, after)
+        }
+        Err(dry) => ControlFlow::Break(Outcome {
+            words: dry.source.at,
+            ..s.ended(End::Dry)
         }),
     }
 }
 
-// "Before each step, used steps = budget ends it as Spent."
+// Turns from where the search stands, while steps are left.
 fn turns(
-    file: &[u8],
-    m: Formula,
+    formula: &FormulaView,
+    order: &[u32],
+    words: &[u64],
+    values: &mut [u64],
+    mut s: State,
+    budget: u32,
+) -> Outcome
+    requires rounds { s.rounds ≤ s.steps }
+    requires lost { s.lost ≤ s.rounds }
+    ensures { out_of result values.new ≡ run_from (play_along one (graph formula.now) order.now words.now) (budget - s.steps) (st_of s values.old) }
+{
+    // The paper's sentence, and so no `for`: "Before each step, used steps = budget ends it as Spent."
+    while s.steps < budget {
+        match take_turn(formula, order, words, values, s) {
+            ControlFlow::Break(outcome) => return outcome,
+            ControlFlow::Continue(next) => s = next,
+        }
+    }
+    s.ended(End::Spent)
+}
+
+// The search from given values, with the source of the next word. The order is the one along which the operators are worked out.
+#[tactic(auto, using(symbols::proofs::Fitting::one_fits), unfolding(search::specs::Machine::search_of, search::specs::Machine::from_root, formula::specs::Graph::graph_of))]
+pub fn sat(
+    formula: &FormulaView,
     order: &[u32],
     words: &[u64],
     values: &mut [u64],
     source: WordSource,
     budget: u32,
 ) -> Outcome
-    ensures { out_of result values.new ≡ run_from (play_along one (graph_of file.now m) order.now words.now) budget (begin m.root.0 values.old source.at) }
+    ensures { out_of result values.new ≡ search_of (play_along one (graph formula.now) order.now words.now) budget values.old source.at }
 {
-    let root = m.root;
-    let mut s = State {
+    let root = formula.root();
+    let start = State {
         walk: Walk {
             node: root,
             target: BitVector(1),
-            source: source,
+            source,
         },
         rounds: 0,
         lost: 0,
         steps: 0,
     };
-    while s.steps < budget {
-        match take_turn(file, m, order, words, values, s) {
-            Turn::Done(o) => {
-                return o;
-            }
-            Turn::On(next) => {
-                s = next;
-            }
+    if assign::value_at(values, root).0 == 1 {
+        return start.ended(End::Solved);
+    }
+    match formula.node(root) {
+        Node::Constant(_) => start.ended(End::Spent),
+        Node::Input(_) => {
+            assign::update_assignment(formula, order, values, root, BitVector(1));
+            State { rounds: 1, ..start }.ended(End::Solved)
         }
-    }
-    let walk = s.walk;
-    let last = walk.source;
-    Outcome {
-        end: End::Spent,
-        rounds: s.rounds,
-        lost: s.lost,
-        steps: s.steps,
-        words: last.at,
-    }
-}
-
-// The search from given values, with the source of the next word. The order is the one along which the operators are worked out.
-pub fn sat(
-    file: &[u8],
-    m: Formula,
-    order: &[u32],
-    words: &[u64],
-    values: &mut [u64],
-    source: WordSource,
-    budget: u32,
-) -> Outcome
-    ensures { out_of result values.new ≡ search_of (play_along one (graph_of file.now m) order.now words.now) budget values.old source.at }
-{
-    let root = m.root;
-    let v = assign::value_at(values, root);
-    if v.0 == 1 {
-        return Outcome {
-            end: End::Solved,
-            rounds: 0,
-            lost: 0,
-            steps: 0,
-            words: source.at,
-        };
-    }
-    match formula::node_at(file, m, root) {
-        Node::Constant(c) => Outcome {
-            end: End::Spent,
-            rounds: 0,
-            lost: 0,
-            steps: 0,
-            words: source.at,
-        },
-        Node::Input(p) => {
-            assign::update_assignment(file, m, order, values, root, BitVector(1));
-            Outcome {
-                end: End::Solved,
-                rounds: 1,
-                lost: 0,
-                steps: 0,
-                words: source.at,
-            }
-        }
-        Node::Unary(a) => turns(file, m, order, words, values, source, budget),
-        Node::Binary(op, a, b) => turns(file, m, order, words, values, source, budget),
+        Node::Unary(_) | Node::Binary(..) => turns(formula, order, words, values, start, budget),
     }
 }

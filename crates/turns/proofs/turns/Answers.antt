@@ -1,24 +1,21 @@
 -- `turns::turns` meets its contract. Assumes nothing.
-use mathlib.Core.Path.{refl}
+use mathlib.Core.Path.{sym, ◌∙◌}
 use native.Mathlib.Omega.{arith}
-use borrow.Author.Rules.{rules}
-use Rattle.turns.proofs.Laws.{turns_begin, turns_long, turns_return, turns_rounds, turns_lost, turns_within, turns_less, turns_again, turns_spent}
+use Rattle.search.proofs.Turns.{turn_few, run_used, run_done, run_on}
 use Rattle.turns.proofs.turns.Goals as goal
 
-pub loop-s-init : goal.loop-s-init
-loop-s-init c = (omega arith, omega arith, omega arith, refl, turns_begin _ _ _)
-
-pub shape_of-values-in-Done : goal.shape_of-values-in-Done
-shape_of-values-in-Done c = search (turns_long, rules)
-
-pub returns-in-Done : goal.returns-in-Done
-returns-in-Done c = search (turns_return, rules)
+pub returns-in-Break : goal.returns-in-Break
+returns-in-Break c = sym (run_done _ _ _ _ (omega arith) c.in-Break.ensures) ∙ c.loop-s.invariant.3
 
 pub loop-s-smaller : goal.loop-s-smaller
-loop-s-smaller c = search (turns_less, rules)
+loop-s-smaller c =
+    let after = turn_few _ _ _ (sym c.in-Continue.ensures) record { rounds = c.loop-s.invariant.0; lost = c.loop-s.invariant.1 } in
+    omega (arith, after.1)
 
 pub loop-s-preserved : goal.loop-s-preserved
-loop-s-preserved c = search (turns_rounds, turns_lost, turns_within, turns_long, turns_again, rules)
+loop-s-preserved c =
+    let after = turn_few _ _ _ (sym c.in-Continue.ensures) record { rounds = c.loop-s.invariant.0; lost = c.loop-s.invariant.1 } in
+    (after.0.rounds, after.0.lost, omega arith, sym (run_on _ _ _ _ (omega arith) c.in-Continue.ensures after.1) ∙ c.loop-s.invariant.3)
 
 pub returns : goal.returns
-returns c = search (turns_spent, rules)
+returns c = rw c.ended.ensures (sym (run_used _ _ _ (omega arith)) ∙ c.loop-s.invariant.3)
