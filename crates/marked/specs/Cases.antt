@@ -1,9 +1,7 @@
 -- Document 01, "Marked cases": one table of questions and replies, each row under its number. Assumes nothing.
-use Rattle.std.specs.Prelude.{ℕ, ◌+◌, ◌-◌, ◌*◌, ◌^◌, List, [], ◌∷◌, Bool, true, false}
+use Rattle.std.specs.Prelude.{ℕ, ◌+◌, ◌-◌, ◌*◌, ◌^◌, List, [], ◌∷◌, Bool, true, false, Some, None}
 use Rattle.bitvec.specs.Word.{M}
-use Rattle.words.specs.Words.{Words, Place, choosing_at}
-use Rattle.words.specs.declared.Toss.{Toss}
-use Rattle.words.specs.declared.Toss.TheVariants as toss
+use Rattle.words.specs.Words.{Words, Place, Drawn, choosing_at}
 use Rattle.symbols.specs.Graph.{Value}
 use Rattle.symbols.specs.declared.OperandSide.{OperandSide}
 use Rattle.symbols.specs.declared.OperandSide.TheVariants.{Lhs, Rhs}
@@ -41,9 +39,9 @@ abbrev pub valued : Answer → Reply
 valued (answered v n) = gives v n
 valued (refused k l) = other
 
-abbrev pub tossed : Toss → Reply
-tossed (toss.Fell b s) = said b
-tossed toss.Dry = other
+abbrev pub tossed : Drawn Bool → Reply
+tossed (Some (b, s)) = said b
+tossed None = other
 
 abbrev pub result : solve.Result → Reply
 result (solve.ended o) = ends o
