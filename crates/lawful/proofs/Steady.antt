@@ -4,17 +4,17 @@ use mathlib.Core.Path.{sym, ap}
 use mathlib.Core.Logic.{inl, inr}
 use mathlib.Core.Bool.{Bool, true, false, ◌&&◌, ◌||◌}
 use lib.Dec.{ltb, eqb}
+use Rattle.std.specs.Prelude.{Some, None}
 use Rattle.laws.specs.Pick.{pick}
 use Rattle.bitvec.specs.Word.{M, bvadd, bvsub, bvmul, bvudiv, bvand, bvor, bvnot}
 use Rattle.words.specs.Words.{draw_at, range_at, not_at, two_at, map_draw}
-use Rattle.words.specs.declared.Draw.TheVariants.{Word, Dry}
 use Rattle.words.proofs.Draws.{draw_forward, draw_longer, range_forward, range_longer, not_forward, not_longer, two_forward, two_longer, made}
 use Rattle.symbols.specs.Graph.{Value}
 use Rattle.symbols.specs.declared.OperandSide.{OperandSide}
 use Rattle.symbols.specs.declared.OperandSide.TheVariants.{Lhs, Rhs}
 use Rattle.symbols.specs.declared.BVOperator.{BVOperator}
 use Rattle.symbols.specs.declared.BVOperator.TheVariants.{Add, Sub, Mul, Divu, Sltu, Remu, Not, Equals, BitwiseAnd}
-use Rattle.rules.specs.One.{no_word, mul_value, divisor_of, inverse_at, map_pair, mul_consistent, consistent_at, one}
+use Rattle.rules.specs.One.{no_word, mul_value, divisor_of, inverse_at, mul_consistent, consistent_at, one}
 use Rattle.promises.specs.Keeps.{Rule}
 use Rattle.promises.proofs.Splits.{never, is_place, made_two}
 use Rattle.lawful.specs.Owed.{Steady, SteadyRules}
@@ -22,7 +22,7 @@ use Rattle.lawful.specs.Owed.{Steady, SteadyRules}
 none_steady : (x : Value) → Steady (λ ws n. no_word x n)
 none_steady x = record { moves = λ ws n v q e. inl (is_place x n v q e); longer = λ ws us n v q e. e }
 
-dry_steady : Steady (λ ws n. Dry)
+dry_steady : Steady (λ ws n. None)
 dry_steady = record { moves = λ ws n v q e. never v q e; longer = λ ws us n v q e. e }
 
 draw_steady : Steady draw_at
@@ -40,16 +40,16 @@ not_steady s = record { moves = λ ws n v q e. inr (not_forward ws s v q n e); l
 map_steady : (g : Value → Value) (f : Rule) → Steady f → Steady (λ ws n. map_draw g (f ws n))
 map_steady g f k = record {
   moves = λ ws n v q e. let m = made g (f ws n) v q e in k.moves ws n m.0 q m.1;
-  longer = λ ws us n v q e. let m = made g (f ws n) v q e in rw (k.longer ws us n m.0 q m.1) (ap (λ (x : ℕ). Word x q) (sym m.2));
+  longer = λ ws us n v q e. let m = made g (f ws n) v q e in rw (k.longer ws us n m.0 q m.1) (ap (λ (x : ℕ). Some (x, q)) (sym m.2));
 }
 
-two_steady : (g : Value → Value → Value) → Steady (λ ws n. map_pair g (two_at ws n))
+two_steady : (g : Value → Value → Value) → Steady (λ ws n. map_draw (λ p. g p.0 p.1) (two_at ws n))
 two_steady g = record {
   moves = λ ws n v q e. let m = made_two g (two_at ws n) v q e in inr (two_forward ws m.0 m.1 q n m.2);
   longer =
       λ ws us n v q e.
       let m = made_two g (two_at ws n) v q e in
-      rw (two_longer ws m.0 m.1 q n us m.2) (ap (λ (x : ℕ). Word x q) (sym m.3));
+      rw (two_longer ws m.0 m.1 q n us m.2) (ap (λ (x : ℕ). Some (x, q)) (sym m.3));
 }
 
 pick_steady : (c : Bool) (f g : Rule) → Steady f → Steady g → Steady (λ ws n. pick c (f ws n) (g ws n))

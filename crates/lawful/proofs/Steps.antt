@@ -7,12 +7,11 @@ use mathlib.Core.Bool.{Bool, true, false}
 use native.Mathlib.Omega.{arith}
 use lib.Dec.{eqb}
 use borrow.Author.Tests.{eqb-true, eqb-false}
+use Rattle.std.specs.Prelude.{Some, None}
 use Rattle.laws.specs.Pick.{pick}
 use Rattle.laws.specs.Rows.{first}
 use Rattle.bitvec.specs.Word.{is_zero}
-use Rattle.words.specs.Words.{Words, Place, coin_at}
-use Rattle.words.specs.declared.Toss.{Toss}
-use Rattle.words.specs.declared.Toss.TheVariants as toss
+use Rattle.words.specs.Words.{Words, Place, Drawn, coin_at}
 use Rattle.words.proofs.Draws.{Small, coin_forward, coin_longer, choosing_forward, choosing_longer}
 use Rattle.symbols.specs.Graph.{Id, Value, Node, constant, input, unary, binary, Graph}
 use Rattle.symbols.specs.Operators.{by_side}
@@ -66,9 +65,9 @@ abbrev WayOnward : Words → Place → Way → Type 0
 WayOnward ws n (way d m) = Onward ws n m
 WayOnward ws n no_way = Unit {0}
 
-coin_onward : (ws : Words) (n : Place) (c : Toss) → coin_at ws n ≡ c → WayOnward ws n (coin_way c)
-coin_onward ws n (toss.Fell b s) e = inr (coin_forward ws n b s e)
-coin_onward ws n toss.Dry e = tt
+coin_onward : (ws : Words) (n : Place) (c : Drawn Bool) → coin_at ws n ≡ c → WayOnward ws n (coin_way c)
+coin_onward ws n (Some (b, s)) e = inr (coin_forward ws n b s e)
+coin_onward ws n None e = tt
 
 abbrev got_place : Got → Place
 got_place (took_inverse v m) = m
@@ -95,9 +94,9 @@ abbrev NoWay : Way → Type 0
 NoWay (way d m) = ⊥
 NoWay no_way = Unit {0}
 
-coin_same : (ws us : Words) (n : Place) (c : Toss) → coin_at ws n ≡ c → NoWay (coin_way c) ⊎ (coin_way c ≡ coin_way (coin_at (ws ++ us) n))
-coin_same ws us n (toss.Fell b s) e = inr (ap coin_way (sym (coin_longer ws n b s us e)))
-coin_same ws us n toss.Dry e = inl tt
+coin_same : (ws us : Words) (n : Place) (c : Drawn Bool) → coin_at ws n ≡ c → NoWay (coin_way c) ⊎ (coin_way c ≡ coin_way (coin_at (ws ++ us) n))
+coin_same ws us n (Some (b, s)) e = inr (ap coin_way (sym (coin_longer ws n b s us e)))
+coin_same ws us n None e = inl tt
 
 module _ (ρ : Rules) (steady : SteadyRules ρ) where
   got_onward : (o : BVOperator) (d : OperandSide) (s t : Value) (ws : Words) (n : Place) (g : Got) → Drew ρ o d s t ws n g → Onward ws n (got_place g)

@@ -1,8 +1,7 @@
 -- The false kinds of edition one, as the search asks for them; and draws that go forward, whatever the values. Assumes nothing.
-use Rattle.std.specs.Prelude.{◌<◌, ◌≡◌, ◌++◌}
+use Rattle.std.specs.Prelude.{◌<◌, ◌≡◌, ◌++◌, Some}
 use Rattle.words.specs.Words.{Words, Place}
 use Rattle.words.specs.declared.WordSource.{WordSource}
-use Rattle.words.specs.declared.Draw.TheVariants.{Word}
 use Rattle.symbols.specs.Graph.{Value}
 use Rattle.symbols.specs.declared.OperandSide.{OperandSide}
 use Rattle.symbols.specs.declared.BVOperator.{BVOperator}
@@ -18,8 +17,8 @@ false_kinds = record { at_binary = FalseYes; at_not = λ t. 1 < t }
 
 -- a rule's answer takes words forward and is the same on every longer list
 pub record Steady (f : Rule) : Type 0 where
-  pub moves : (ws : Words) (n : Place) (v : Value) (q : WordSource) → f ws n ≡ Word v q → Onward ws n q.at
-  pub longer : (ws us : Words) (n : Place) (v : Value) (q : WordSource) → f ws n ≡ Word v q → f (ws ++ us) n ≡ Word v q
+  pub moves : (ws : Words) (n : Place) (v : Value) (q : WordSource) → f ws n ≡ Some (v, q) → Onward ws n q.at
+  pub longer : (ws us : Words) (n : Place) (v : Value) (q : WordSource) → f ws n ≡ Some (v, q) → f (ws ++ us) n ≡ Some (v, q)
 
 pub record SteadyRules (ρ : Rules) : Type 0 where
   pub inverses : (o : BVOperator) (d : OperandSide) (s t : Value) → Steady (ρ.inverse o d s t)
