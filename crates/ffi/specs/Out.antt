@@ -1,12 +1,10 @@
 -- What an adapter leaves in the lent buffer. Assumes nothing.
-use Rattle.std.specs.Prelude.{ℕ, List, set}
-use Rattle.numbered.specs.declared.Found.{Found}
-use Rattle.numbered.specs.declared.Found.TheVariants.{Value, Nothing}
+use Rattle.std.specs.Prelude.{ℕ, List, Option, Some, None, set}
 
 -- the answer's number at 0 and its value at 1; entries that the buffer lacks are not written
-abbrev pub written : Found → List ℕ → List ℕ
-written (Value v) out = set (set out 0 1) 1 v
-written Nothing out = set (set out 0 0) 1 0
+abbrev pub written : Option ℕ → List ℕ → List ℕ
+written (Some v) out = set (set out 0 1) 1 v
+written None out = set (set out 0 0) 1 0
 
 -- three entries, six entries
 abbrev pub three : ℕ → ℕ → ℕ → List ℕ → List ℕ

@@ -1,21 +1,17 @@
 -- The rules of edition one by number, as the comparison asks for them. Assumes nothing.
-use Rattle.std.specs.Prelude.{ℕ, List, [], ◌∷◌, eqb}
+use Rattle.std.specs.Prelude.{ℕ, List, [], ◌∷◌, Option, Some, None, eqb}
 use mir.Val.{bool_byte}
 use Rattle.laws.specs.Rows.{row, first}
 use Rattle.words.specs.Words.{Words, Place}
 use Rattle.symbols.specs.Graph.{Value}
+use Rattle.symbols.specs.Operators.{operator_of}
 use Rattle.symbols.specs.declared.OperandSide.{OperandSide}
 use Rattle.symbols.specs.declared.OperandSide.TheVariants.{Lhs, Rhs}
 use Rattle.symbols.specs.declared.BVOperator.{BVOperator}
-use Rattle.symbols.specs.declared.BVOperator.TheVariants.{Add, Sub, Mul, Divu, Sltu, Remu, Not, Equals, BitwiseAnd}
 use Rattle.reach.specs.Table.{table_says}
 use Rattle.rules.specs.One.{one}
 use Rattle.values.specs.Answers.{Answer, answered, refused, UnaryAnswer, unary_value, unary_refused, inverse_answer, consistent_answer, unary_answer}
 use Rattle.ffi.specs.Out.{three}
-use Rattle.ffi.specs.declared.single.Operator.{Operator}
-use Rattle.ffi.specs.declared.single.Operator.TheVariants as operator
-use Rattle.ffi.specs.declared.single.Side.{Side}
-use Rattle.ffi.specs.declared.single.Side.TheVariants as side
 use Rattle.ffi.specs.declared.single.Fields.{Fields}
 
 -- the number, the value and the place
@@ -23,28 +19,16 @@ abbrev pub fields : ℕ → ℕ → ℕ → Fields
 fields a b c = record { 0 = a; 1 = b; 2 = c }
 
 -- an operator by the number of its kind
-unfoldable pub operator_no : ℕ → Operator
-operator_no op =
-    first
-    (row (eqb op 2) (operator.Is Add)
-    ∷ row (eqb op 3) (operator.Is Sub)
-    ∷ row (eqb op 4) (operator.Is Mul)
-    ∷ row (eqb op 5) (operator.Is Divu)
-    ∷ row (eqb op 6) (operator.Is Sltu)
-    ∷ row (eqb op 7) (operator.Is Remu)
-    ∷ row (eqb op 8) (operator.Is Not)
-    ∷ row (eqb op 9) (operator.Is Equals)
-    ∷ row (eqb op 10) (operator.Is BitwiseAnd)
-    ∷ [])
-    operator.Unknown
+abbrev pub operator_no : ℕ → Option BVOperator
+operator_no = operator_of
 
-unfoldable pub side_no : ℕ → Side
+unfoldable pub side_no : ℕ → Option OperandSide
 side_no d =
     first
-    (row (eqb d 0) (side.Is Lhs)
-    ∷ row (eqb d 1) (side.Is Rhs)
+    (row (eqb d 0) (Some Lhs)
+    ∷ row (eqb d 1) (Some Rhs)
     ∷ [])
-    side.Unknown
+    None
 
 -- 0, the value and the place after it; or the refusal's number, and the place as it was
 abbrev pub valued : Answer → Place → Fields
@@ -65,13 +49,13 @@ asked rule o d s t ws n =
     ∷ [])
     (fields 99 0 n)
 
-abbrev pub by_side_no : Side → ℕ → BVOperator → Value → Value → Words → Place → Fields
-by_side_no (side.Is d) rule o s t ws n = asked rule o d s t ws n
-by_side_no side.Unknown rule o s t ws n = fields 99 0 n
+abbrev pub by_side_no : Option OperandSide → ℕ → BVOperator → Value → Value → Words → Place → Fields
+by_side_no (Some d) rule o s t ws n = asked rule o d s t ws n
+by_side_no None rule o s t ws n = fields 99 0 n
 
-abbrev pub by_operator : Operator → ℕ → ℕ → Value → Value → Words → Place → Fields
-by_operator (operator.Is o) rule d s t ws n = by_side_no (side_no d) rule o s t ws n
-by_operator operator.Unknown rule d s t ws n = fields 99 0 n
+abbrev pub by_operator : Option BVOperator → ℕ → ℕ → Value → Value → Words → Place → Fields
+by_operator (Some o) rule d s t ws n = by_side_no (side_no d) rule o s t ws n
+by_operator None rule d s t ws n = fields 99 0 n
 
 unfoldable pub ruled : ℕ → ℕ → ℕ → Value → Value → Words → Place → Fields
 ruled rule op d s t ws n = by_operator (operator_no op) rule d s t ws n

@@ -5,17 +5,13 @@ ghost use Rattle.checks.specs.Refusals.{verdict};
 ghost use Rattle.ffi.specs.Files.{checked};
 
 use super::out::put_three;
-use checks::Checked;
-use symbols::{Named, Refusal};
+use symbols::Refusal;
 
 // The id that a refusal names, else 0.
 pub fn id_of(r: Refusal) -> u64
     ensures { result ≡ get_or (values_of r) 0 0 }
 {
-    match r.named() {
-        Named::Nothing => 0,
-        Named::Id(i) => i.0 as u64,
-    }
+    r.named().map_or(0, |id| id.0 as u64)
 }
 
 // 0, n and the root of an accepted file; else the refusal's number and the id that it names.
@@ -23,7 +19,7 @@ pub fn check_file(file: &[u8], out: &mut [u64])
     ensures { out.new ≡ checked (verdict file.now) out.old }
 {
     match checks::check(file) {
-        Checked::Accepted(m) => put_three(out, 0, m.count as u64, m.root.0 as u64),
-        Checked::Refused(r) => put_three(out, r.number(), id_of(r), 0),
+        Ok(m) => put_three(out, 0, m.count as u64, m.root.0 as u64),
+        Err(r) => put_three(out, r.number(), id_of(r), 0),
     }
 }

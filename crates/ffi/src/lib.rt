@@ -11,27 +11,13 @@ pub mod out;
 pub mod searching;
 pub mod single;
 
-use numbered::Found;
 use out::put;
-
-fn write(found: Found, out: &mut [u64])
-    ensures { out.new ≡ written found out.old }
-{
-    match found {
-        Found::Value(v) => {
-            put(out, 0, 1);
-            put(out, 1, v);
-        }
-        Found::Nothing => {
-            put(out, 0, 0);
-            put(out, 1, 0);
-        }
-    }
-}
 
 // An operation of BitVector by its number (numbered/specs/Bitvec.antt): 1 and its value, or 0 and 0.
 pub fn bitvec_op(op: u64, a: u64, b: u64, out: &mut [u64])
     ensures { out.new ≡ written (bitvec_op op a b) out.old }
 {
-    write(numbered::operation(op, a, b), out);
+    let found = numbered::operation(op, a, b);
+    put(out, 0, found.is_some() as u64);
+    put(out, 1, found.unwrap_or(0));
 }

@@ -10,11 +10,11 @@ ghost use Rattle.ffi.specs.Search.{end_no, solved, values_after, side_number, ch
 use super::files::id_of;
 use super::out::put_six;
 use bitvec::BitVector;
-use checks::Checked;
-use monster::{Choice, Move, Walk};
-use solve::Answer;
+use formula::FormulaView;
+use monster::{Choice, Walk};
 use symbols::{OperandSide, SymbolId};
 use turns::End;
+use values::RanDry;
 use words::WordSource;
 
 fn end_no(e: End) -> u64
@@ -32,19 +32,16 @@ pub fn solve_file(file: &[u8], words: &[u64], budget: u32, values: &mut [u64], o
     ensures { (out.new ≡ solved (answer one file.now words.now budget values.old) out.old) × (values.new ≡ values_after (answer one file.now words.now budget values.old)) }
 {
     match solve::solve(file, words, budget, values) {
-        Answer::Ended(o) => {
-            let e = o.end;
-            put_six(
-                out,
-                0,
-                end_no(e),
-                o.rounds as u64,
-                o.lost as u64,
-                o.steps as u64,
-                o.words as u64,
-            );
-        }
-        Answer::Refused(r) => put_six(out, r.number(), id_of(r), 0, 0, 0, 0),
+        Ok(o) => put_six(
+            out,
+            0,
+            end_no(o.end),
+            o.rounds as u64,
+            o.lost as u64,
+            o.steps as u64,
+            o.words as u64,
+        ),
+        Err(r) => put_six(out, r.number(), id_of(r), 0, 0, 0, 0),
     }
 }
 
@@ -53,8 +50,8 @@ fn choice_no(c: Choice) -> u64
 {
     match c {
         Choice::Not => 0,
-        Choice::Inverse(d) => 1,
-        Choice::Consistent(d) => 2,
+        Choice::Inverse(_) => 1,
+        Choice::Consistent(_) => 2,
     }
 }
 
@@ -72,30 +69,24 @@ fn choice_side(c: Choice) -> u64
 {
     match c {
         Choice::Not => 0,
-        Choice::Inverse(d) => side_no(d),
-        Choice::Consistent(d) => side_no(d),
+        Choice::Inverse(d) | Choice::Consistent(d) => side_no(d),
     }
 }
 
-fn write_step(s: Move, out: &mut [u64])
-    ensures { out.new ≡ stepped (step_of s) out.old }
+fn write_step(step: Result<(Walk, Choice), RanDry>, out: &mut [u64])
+    ensures { out.new ≡ stepped (step_of step) out.old }
 {
-    match s {
-        Move::To(w, c) => {
-            let node = w.node;
-            let target = w.target;
-            let source = w.source;
-            put_six(
-                out,
-                0,
-                node.0 as u64,
-                target.0,
-                source.at as u64,
-                choice_no(c),
-                choice_side(c),
-            );
-        }
-        Move::Dry(source) => put_six(out, 12, source.at as u64, 0, 0, 0, 0),
+    match step {
+        Ok((walk, choice)) => put_six(
+            out,
+            0,
+            walk.node.0 as u64,
+            walk.target.0,
+            walk.source.at as u64,
+            choice_no(choice),
+            choice_side(choice),
+        ),
+        Err(dry) => put_six(out, 12, dry.source.at as u64, 0, 0, 0, 0),
     }
 }
 
@@ -114,14 +105,17 @@ pub fn step_op(
     ensures { out.new ≡ stepped_on (verdict file.now) file.now words.now values.now node target at out.old }
 {
     match checks::check(file) {
-        Checked::Refused(r) => put_six(out, r.number(), id_of(r), 0, 0, 0, 0),
-        Checked::Accepted(m) => {
+        Ok(layout) => {
             let walk = Walk {
                 node: SymbolId(node),
                 target: BitVector(target),
-                source: WordSource { at: at },
+                source: WordSource { at },
             };
-            write_step(monster::step(file, m, values, words, walk), out);
+            write_step(
+                monster::step(&FormulaView { file, layout }, values, words, walk),
+                out,
+            );
         }
+        Err(r) => put_six(out, r.number(), id_of(r), 0, 0, 0, 0),
     }
 }

@@ -1,94 +1,48 @@
 // The rules of edition one for a single value.
 ghost use Rattle.std.specs.Prelude.{◌≡◌};
 ghost use Rattle.values.specs.Answers.{answer_of, unary_of};
-ghost use Rattle.ffi.specs.Rules.{operator_no, side_no, valued, unaried, asked, ruled, wrote};
+ghost use Rattle.ffi.specs.Rules.{side_no, valued, unaried, asked, ruled, wrote};
 
 use super::out::put_three;
 use bitvec::BitVector;
 use reach::is_invertible;
-use symbols::{BVOperator, OperandSide};
-use values::{Unary, Valued};
+use symbols::{BVOperator, OperandSide, Refusal};
 use words::WordSource;
-
-#[derive(Clone, Copy)]
-pub enum Operator {
-    Is(BVOperator),
-    Unknown,
-}
-
-#[derive(Clone, Copy)]
-pub enum Side {
-    Is(OperandSide),
-    Unknown,
-}
 
 // The number, the value and the place that are left in the buffer.
 #[derive(Clone, Copy)]
 pub struct Fields(pub u64, pub u64, pub u64);
 
-fn operator_no(op: u64) -> Operator
-    ensures { result ≡ operator_no op }
-{
-    if op == 2 {
-        return Operator::Is(BVOperator::Add);
-    }
-    if op == 3 {
-        return Operator::Is(BVOperator::Sub);
-    }
-    if op == 4 {
-        return Operator::Is(BVOperator::Mul);
-    }
-    if op == 5 {
-        return Operator::Is(BVOperator::Divu);
-    }
-    if op == 6 {
-        return Operator::Is(BVOperator::Sltu);
-    }
-    if op == 7 {
-        return Operator::Is(BVOperator::Remu);
-    }
-    if op == 8 {
-        return Operator::Is(BVOperator::Not);
-    }
-    if op == 9 {
-        return Operator::Is(BVOperator::Equals);
-    }
-    if op == 10 {
-        return Operator::Is(BVOperator::BitwiseAnd);
-    }
-    Operator::Unknown
-}
-
-fn side_no(side: u64) -> Side
+#[tactic(auto, unfolding(crate::specs::Rules::side_no, laws::specs::Rows::first))]
+fn side_no(side: u64) -> Option<OperandSide>
     ensures { result ≡ side_no side }
 {
-    if side == 0 {
-        return Side::Is(OperandSide::Lhs);
+    match side {
+        0 => Some(OperandSide::Lhs),
+        1 => Some(OperandSide::Rhs),
+        _ => None,
     }
-    if side == 1 {
-        return Side::Is(OperandSide::Rhs);
-    }
-    Side::Unknown
 }
 
-fn of_valued(v: Valued, at: usize) -> Fields
+fn of_valued(v: Result<(BitVector, WordSource), Refusal>, at: usize) -> Fields
     ensures { result ≡ valued (answer_of v) at }
 {
     match v {
-        Valued::Value(x, next) => Fields(0, x.0, next.at as u64),
-        Valued::Refused(r) => Fields(r.number(), 0, at as u64),
+        Ok((x, next)) => Fields(0, x.0, next.at as u64),
+        Err(r) => Fields(r.number(), 0, at as u64),
     }
 }
 
-fn of_unary(v: Unary, at: usize) -> Fields
+fn of_unary(v: Result<BitVector, Refusal>, at: usize) -> Fields
     ensures { result ≡ unaried (unary_of v) at }
 {
     match v {
-        Unary::Value(x) => Fields(0, x.0, at as u64),
-        Unary::Refused(r) => Fields(r.number(), 0, at as u64),
+        Ok(x) => Fields(0, x.0, at as u64),
+        Err(r) => Fields(r.number(), 0, at as u64),
     }
 }
 
+#[tactic(auto, unfolding(crate::specs::Rules::asked, laws::specs::Rows::first))]
 fn ask(
     number: u64,
     op: BVOperator,
@@ -100,28 +54,23 @@ fn ask(
 ) -> Fields
     ensures { result ≡ asked number op d s.0 t.0 words.now at }
 {
-    let source = WordSource { at: at };
-    if number == 0 {
-        return Fields(1, is_invertible(op, s, t, d) as u64, at as u64);
-    }
-    if number == 1 {
-        return of_valued(
+    let source = WordSource { at };
+    match number {
+        0 => Fields(1, is_invertible(op, s, t, d) as u64, at as u64),
+        1 => of_valued(
             values::compute_inverse_value(op, s, t, d, words, source),
             at,
-        );
-    }
-    if number == 2 {
-        return of_valued(
+        ),
+        2 => of_valued(
             values::compute_consistent_value(op, t, d, words, source),
             at,
-        );
+        ),
+        3 => of_unary(values::compute_inverse_value_for_unary_op(op, t), at),
+        _ => Fields(99, 0, at as u64),
     }
-    if number == 3 {
-        return of_unary(values::compute_inverse_value_for_unary_op(op, t), at);
-    }
-    Fields(99, 0, at as u64)
 }
 
+#[tactic(auto, unfolding(crate::specs::Rules::ruled))]
 fn rule(
     number: u64,
     op: u64,
@@ -133,13 +82,13 @@ fn rule(
 ) -> Fields
     ensures { result ≡ ruled number op side s.0 t.0 words.now at }
 {
-    let Operator::Is(o) = operator_no(op) else {
+    let Some(op) = BVOperator::from_number(op) else {
         return Fields(99, 0, at as u64);
     };
-    let Side::Is(d) = side_no(side) else {
+    let Some(d) = side_no(side) else {
         return Fields(99, 0, at as u64);
     };
-    ask(number, o, d, s, t, words, at)
+    ask(number, op, d, s, t, words, at)
 }
 
 // A rule (0 the table, 1 inverse, 2 consistent, 3 unary) of an operator, by its kind's number, and a side (0 Lhs, 1 Rhs): 1 and
