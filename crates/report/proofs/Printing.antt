@@ -8,54 +8,15 @@ use lib.ListN.{length, length-append}
 use Rattle.text.specs.Text.{Text, Place, bytes, Wrote, WroteUpTo}
 use Rattle.text.proofs.Writing.{wrote_nothing, wrote_append}
 use Rattle.symbols.specs.Graph.{Id, Value, Graph}
-use Rattle.symbols.specs.declared.SymbolId.{SymbolId}
-use Rattle.symbols.specs.declared.BVOperator.{BVOperator}
-use Rattle.bitvec.specs.declared.BitVector.{BitVector}
 use Rattle.formula.specs.File.{File}
 use Rattle.formula.specs.Graph.{graph_of, node_is}
 use Rattle.formula.specs.declared.Formula.{Formula}
 use Rattle.formula.specs.declared.Node.{Node}
-use Rattle.formula.specs.declared.Node.TheVariants as node
 use Rattle.search.specs.Machine.{Values, value_of}
 use Rattle.turns.specs.Turn.{end_of, out_of}
-use Rattle.turns.specs.declared.End.{End}
-use Rattle.turns.specs.declared.End.TheVariants.{Solved, Spent, Dry}
 use Rattle.turns.specs.declared.Outcome.{Outcome}
 use Rattle.report.specs.Report.{field, end_word, counts, first_line, input_line, line_of, lines_below, result_text}
-use Rattle.symbols.specs.declared.Port.{Port}
 use Rattle.report.proofs.Lengths.{input_length, first_length}
-
-module _ (at n : Place) (o p : Text) where
-  -- put_end
-  module _ (e : End) where
-    pub end_solved : e ≡ Solved → Wrote (bytes "solved") at o p n → Wrote (end_word (end_of e)) at o p n
-    end_solved h w = rw h w
-
-    pub end_spent : e ≡ Spent → Wrote (bytes "spent") at o p n → Wrote (end_word (end_of e)) at o p n
-    end_spent h w = rw h w
-
-    pub end_dry : e ≡ Dry → Wrote (bytes "dry") at o p n → Wrote (end_word (end_of e)) at o p n
-    end_dry h w = rw h w
-
-  -- put_line
-  module _ (i : Id) (x : Node) (v : Value) where
-    pub line_input : (q : Port) → x ≡ node.Input q → WroteUpTo 54 (input_line i q.label v) at o p n → WroteUpTo 54 (line_of i (node_is x) v) at o p n
-    unfolding line_of
-    line_input q h w = rw h w
-
-module _ (at : Place) (o : Text) (fits : at < 2 ^ 64) where
-  module _ (i : Id) (x : Node) (v : Value) where
-    pub line_constant : (c : BitVector) → x ≡ node.Constant c → WroteUpTo 54 (line_of i (node_is x) v) at o o at
-    unfolding line_of
-    line_constant c h = rw h record { wrote = wrote_nothing at o fits; short = omega arith }
-
-    pub line_unary : (a : SymbolId) → x ≡ node.Unary a → WroteUpTo 54 (line_of i (node_is x) v) at o o at
-    unfolding line_of
-    line_unary a h = rw h record { wrote = wrote_nothing at o fits; short = omega arith }
-
-    pub line_binary : (op : BVOperator) (a b : SymbolId) → x ≡ node.Binary op a b → WroteUpTo 54 (line_of i (node_is x) v) at o o at
-    unfolding line_of
-    line_binary op a b h = rw h record { wrote = wrote_nothing at o fits; short = omega arith }
 
 module _ (at a b c d : Place) (o p q s t : Text) (fits : length o < 2 ^ 64) where
   -- put_input

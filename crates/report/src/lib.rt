@@ -2,11 +2,12 @@
 // What the program prints of a search, into a lent buffer. No function here has a `requires`.
 ghost use Rattle.std.specs.Prelude.{◌≡◌, ◌+◌, ◌*◌, [], ◌++◌};
 ghost use Rattle.text.specs.Text.{Wrote, WroteUpTo};
-ghost use Rattle.formula.specs.Graph.{graph_of, node_is};
+ghost use Rattle.formula.specs.Graph.{node_is};
+ghost use Rattle.formula.specs.View.{graph};
 ghost use Rattle.turns.specs.Turn.{end_of, out_of};
 ghost use Rattle.report.specs.Report.{field, end_word, counts, first_line, input_line, line_of, lines_below, result_text};
 
-use formula::{Formula, Node};
+use formula::{FormulaView, Node};
 use symbols::SymbolId;
 use text::{put_field, put_text};
 use turns::{End, Outcome};
@@ -45,8 +46,7 @@ fn put_counts(out: &mut [u8], at: usize, o: Outcome) -> usize
 fn put_first(out: &mut [u8], at: usize, o: Outcome) -> usize
     ensures { WroteUpTo 85 (first_line (out_of o [])) at out.old out.new result }
 {
-    let e = o.end;
-    let a = put_end(out, at, e);
+    let a = put_end(out, at, o.end);
     let b = put_counts(out, a, o);
     put_text(out, b, b"\n")
 }
@@ -60,35 +60,30 @@ fn put_input(out: &mut [u8], at: usize, id: u32, label: u64, v: u64) -> usize
     put_text(out, c, b"\n")
 }
 
+#[tactic(auto, using(text::proofs::Writing::wrote_nothing), unfolding(crate::specs::Report::line_of))]
 fn put_line(out: &mut [u8], at: usize, id: u32, n: Node, v: u64) -> usize
     ensures { WroteUpTo 54 (line_of id (node_is n) v) at out.old out.new result }
 {
     match n {
-        Node::Constant(c) => at,
         Node::Input(p) => put_input(out, at, id, p.label, v),
-        Node::Unary(a) => at,
-        Node::Binary(op, a, b) => at,
+        Node::Constant(_) | Node::Unary(_) | Node::Binary(_, _, _) => at,
     }
 }
 
-fn put_lines(out: &mut [u8], at: usize, file: &[u8], m: Formula, values: &[u64]) -> usize
-    ensures { WroteUpTo (54 * m.count) (lines_below (graph_of file.now m) values.now m.count) at out.old out.new result }
+fn put_lines(out: &mut [u8], at: usize, formula: &FormulaView, values: &[u64]) -> usize
+    ensures { WroteUpTo (54 * formula.now.layout.count) (lines_below (graph formula.now) values.now formula.now.layout.count) at out.old out.new result }
 {
-    let count = m.count;
     let mut n = at;
-    let mut i: u32 = 0;
-    while i < count {
-        let node = formula::node_at(file, m, SymbolId(i));
-        let v = assign::value_at(values, SymbolId(i));
-        n = put_line(out, n, i, node, v.0);
-        i += 1;
+    for i in 0..formula.count() {
+        let id = SymbolId(i);
+        n = put_line(out, n, i, formula.node(id), assign::value_at(values, id).0);
     }
     n
 }
 
-pub fn result(file: &[u8], m: Formula, o: Outcome, values: &[u64], out: &mut [u8]) -> usize
-    ensures { WroteUpTo (85 + 54 * m.count) (result_text (graph_of file.now m) (out_of o values.now)) 0 out.old out.new result }
+pub fn result(formula: &FormulaView, o: Outcome, values: &[u64], out: &mut [u8]) -> usize
+    ensures { WroteUpTo (85 + 54 * formula.now.layout.count) (result_text (graph formula.now) (out_of o values.now)) 0 out.old out.new result }
 {
     let n = put_first(out, 0, o);
-    put_lines(out, n, file, m, values)
+    put_lines(out, n, formula, values)
 }
