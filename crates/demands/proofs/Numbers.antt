@@ -7,6 +7,7 @@ use mathlib.Core.Bool.{true, false}
 use mathlib.Core.Logic.{◌↔◌}
 use native.Mathlib.Omega.{arith}
 use lib.ListN.{length}
+use Rattle.std.specs.Prelude.{Ok, Err}
 use Rattle.laws.specs.Rows.{gives_at}
 use Rattle.words.specs.Words.{Words}
 use Rattle.symbols.specs.Graph.{Id, Graph, Depends}
@@ -17,8 +18,7 @@ use Rattle.symbols.specs.declared.Refusal.TheVariants as refusal
 use Rattle.formula.specs.File.{File, formula_of, record_at}
 use Rattle.formula.specs.Graph.{node_of}
 use Rattle.checks.specs.Refusals as file
-use Rattle.checks.specs.Refusals.{bad_size, bad_trailer, bad_span, bad_record, outside, fixed, head_rows, checks, verdict}
-use Rattle.checks.specs.declared.Finding.TheVariants.{Clear, Refuse}
+use Rattle.checks.specs.Refusals.{Finding, bad_size, bad_trailer, bad_span, bad_record, outside, fixed, head_rows, checks, verdict}
 use Rattle.filelaws.specs.Fine.{Until, Free, BeforeRoot}
 use Rattle.filelaws.proofs.Exactly.{refused_exactly}
 use Rattle.filelaws.proofs.Places.{place_of, given_place}
@@ -36,7 +36,7 @@ module _ (f : File) where
   unfolding checks head_rows
   not_of_file r z ne e =
       let h = (refused_exactly f r).0 e in
-      let w : Refuse refusal.Size ≡ Refuse r = ap (gives_at (checks f) Clear) (sym (given_place f r h ∙ z)) ∙ h.gives in
+      let w : ◌≡◌ {A = Finding} (Err refusal.Size) (Err r) = ap (gives_at (checks f) (Ok tt)) (sym (given_place f r h ∙ z)) ∙ h.gives in
       ne cc
 
   room_not : verdict f ≡ file.refuse refusal.Room → ⊥

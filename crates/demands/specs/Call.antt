@@ -6,8 +6,7 @@ use Rattle.words.proofs.Draws.{Small}
 use Rattle.symbols.specs.Graph.{Graph}
 use Rattle.formula.specs.File.{File, formula_of}
 use Rattle.formula.specs.Graph.{graph_of}
-use Rattle.checks.specs.Refusals.{checks, accepted, verdict}
-use Rattle.checks.specs.declared.Finding.{Finding}
+use Rattle.checks.specs.Refusals.{Finding, checks, accepted, verdict}
 use Rattle.filelaws.proofs.Nodes.{Bytes}
 use Rattle.search.specs.Machine.{Values, Play, Out, search_of}
 use Rattle.search.specs.Round.{Round, rounds_of}

@@ -2,8 +2,7 @@
 use Rattle.std.specs.Prelude.{ℕ, ◌%◌, ◌≡◌, List, [], ◌∷◌, Bool, false, not, length}
 use Rattle.bitvec.specs.Word.{M, bvmul, bvand, bvor, bvnot, bvlshr, ctz}
 use Rattle.bitvec.specs.Inverse.{inverse_of}
-use Rattle.words.specs.Words.{Words, Place, draw_at, map_draw}
-use Rattle.words.specs.declared.Draw.{Draw}
+use Rattle.words.specs.Words.{Words, Place, Draw, draw_at, map_draw}
 use Rattle.symbols.specs.Graph.{Value, Node, constant, input, unary, binary}
 use Rattle.symbols.specs.declared.OperandSide.{OperandSide}
 use Rattle.symbols.specs.declared.BVOperator.{BVOperator}
