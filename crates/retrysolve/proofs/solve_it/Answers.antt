@@ -1,14 +1,13 @@
+use Rattle.std.proofs.Common.{arith, replicate, refl}
 use Rattle.retrysolve.proofs.Answers.{solved_it}
-use Rattle.intake.proofs.Words.{words_count}
-use Rattle.intake.proofs.Parts.{part_count}
-use borrow.Author.Rules.{rules}
 use Rattle.retrysolve.proofs.solve_it.Goals as goal
 
-pub slice_bounds-answer_to-end : goal.slice_bounds-answer_to-end
-slice_bounds-answer_to-end c = search (words_count, rules)
-
-pub slice_bounds-answer_to-end-2 : goal.slice_bounds-answer_to-end-2
-slice_bounds-answer_to-end-2 c = search (part_count, rules)
-
 pub returns : goal.returns
-returns c = search (solved_it, rules)
+returns c =
+    solved_it _ c.args.input.now c.args.formula.now.layout (replicate 4096 0) _ c.words_from-k.result (replicate 4000 0) c.min-n.result _ _ _
+    refl
+    c.words_from-k.ensures.value
+    c.words_from-k.ensures.out_after
+    refl
+    (omega arith)
+    c.answer_to.ensures
