@@ -1,9 +1,9 @@
 #![tactic(auto)]
 // Replays a fixed list of answers, those of the original Rust and of a plain reading of the documents (oracle/README.md, "The list of
 // answers"), against the proved crates, with no Rust at hand. It stops at the first that differs.
-ghost use Rattle.std.specs.Prelude.{◌≡◌, ◌≤◌, length};
+ghost use Rattle.std.specs.Prelude.{◌≤◌};
 
-use formula::bytes::{least, u32_at};
+use formula::bytes::u32_at;
 use graphfile::read_full;
 use intake::words_from;
 use std::io::Read;
@@ -12,38 +12,13 @@ use text::{put_field, put_text};
 
 // At most k bytes from a place on.
 fn part(s: &[u8], at: usize, k: usize) -> &[u8] {
-    let from = least(at, s.len());
-    let to = from + least(k, s.len() - from);
-    &s[from..to]
+    let rest = s.get(at..).unwrap_or(&[]);
+    rest.get(..k).unwrap_or(rest)
 }
 
-// Field k of an entry's head.
+// Field k of an entry's head; there are twelve.
 fn field(head: &[u8], k: u32) -> u64 {
-    if k < 12 {
-        return u32_at(head, 4 * k) as u64;
-    }
-    0
-}
-
-// What the list lends for values.
-fn lent() -> [u64; 16]
-    ensures { 16 ≡ length result }
-{
-    [0xffff_ffff_ffff_ffff; 16]
-}
-
-fn same(a: &[u64], b: &[u64]) -> bool {
-    if a.len() != b.len() {
-        return false;
-    }
-    let mut i: usize = 0;
-    while i < a.len() {
-        if a[i] != b[i] {
-            return false;
-        }
-        i += 1;
-    }
-    true
+    u32_at(head, k.saturating_mul(4)) as u64
 }
 
 // A search in the lent values: the answer's six numbers are fields 6 to 11, and the values afterwards are those of the list.
@@ -64,7 +39,7 @@ fn search_agrees(
         field(head, 10),
         field(head, 11),
     ];
-    same(&out, &told) & same(values, after)
+    out == told && *values == *after
 }
 
 // A single value: s, t and the answer are the values; the table's answer has the number 1.
@@ -84,36 +59,31 @@ fn rule_agrees(head: &[u8], words: &[u64], s: u64, t: u64, answer: u64) -> bool 
     );
     let number = if rule == 0 { 1 } else { field(head, 6) };
     let told = [number, answer, field(head, 10)];
-    same(&out, &told)
+    out == told
 }
 
 fn by_kind(head: &[u8], file: &[u8], words: &[u64], given: &[u64]) -> bool {
     if field(head, 0) == 0 {
-        let mut values = lent();
-        let n = least(given.len(), 16);
+        // What the list lends for values.
+        let mut values = [u64::MAX; 16];
+        let n = given.len().min(16);
         return search_agrees(head, file, words, given, &mut values[..n]);
     }
-    if given.len() < 3 {
+    let &[s, t, answer, ..] = given else {
         return false;
-    }
-    rule_agrees(head, words, given[0], given[1], given[2])
+    };
+    rule_agrees(head, words, s, t, answer)
 }
 
 // Whether an entry agrees: its head, and behind it f bytes of file, w words and the values.
 fn agrees(head: &[u8], body: &[u8], f: u32, w: u32) -> bool {
-    let mut words = lent();
-    let mut given = lent();
+    let mut words = [0; 16];
+    let mut given = [0; 16];
     let words_at = f as usize;
     let length = 8 * (w as usize);
     let k = words_from(part(body, words_at, length), &mut words);
     let n = words_from(part(body, words_at + length, 128), &mut given);
     by_kind(head, part(body, 0, words_at), &words[..k], &given[..n])
-}
-
-fn body_room() -> [u8; 400]
-    ensures { 400 ≡ length result }
-{
-    [0; 400]
 }
 
 fn read_body<R: Read>(list: &mut R, head: &[u8], body: &mut [u8]) -> bool {
@@ -128,8 +98,8 @@ fn next_agrees<R: Read>(list: &mut R) -> bool {
     let f = u32_at(&head, 8) as usize;
     let w = u32_at(&head, 12) as usize;
     let v = u32_at(&head, 16) as usize;
-    let mut body = body_room();
-    let n = least(f + 8 * w + 8 * v, 400);
+    let mut body = [0; 400];
+    let n = (f + 8 * w + 8 * v).min(400);
     read_body(list, &head, &mut body[..n])
 }
 
@@ -137,14 +107,12 @@ fn next_agrees<R: Read>(list: &mut R) -> bool {
 fn replay<R: Read>(list: &mut R, total: u32) -> u32
     ensures { result ≤ total }
 {
-    let mut i: u32 = 0;
-    while i < total {
+    for i in 0..total {
         if !next_agrees(list) {
             return i;
         }
-        i += 1;
     }
-    i
+    total
 }
 
 // How many entries the list says that it has.
