@@ -25,6 +25,7 @@ pub fn value_at(values: &[u64], id: SymbolId) -> BitVector
 pub fn store(values: &mut [u64], id: SymbolId, v: BitVector)
     ensures { values.new ≡ set values.old id.0 v.0 }
 {
+    // By index: written through `get_mut`, it stays open that past the end nothing changes.
     let i = id.0 as usize;
     if i < values.len() {
         values[i] = v.0;

@@ -147,18 +147,20 @@ pub fn step(
 ) -> Result<(Walk, Choice), RanDry>
     ensures { step_of result ≡ step_from (here_of one (graph formula.now) values.now) words.now walk.node.0 walk.target.0 walk.source.at }
 {
-    let t = walk.target;
-    let source = walk.source;
     match formula.node(walk.node) {
-        Node::Constant(_) | Node::Input(_) => Err(RanDry { source }),
-        Node::Unary(a) => Ok((
-            Walk {
+        Node::Constant(_) | Node::Input(_) => Err(RanDry {
+            source: walk.source,
+        }),
+        Node::Unary(a) => {
+            let next = Walk {
                 node: a,
-                target: t.is_zero(),
-                source,
-            },
-            Choice::Not,
-        )),
-        Node::Binary(op, a, b) => step_binary(formula, values, words, op, a, b, t, source),
+                target: walk.target.is_zero(),
+                ..walk
+            };
+            Ok((next, Choice::Not))
+        }
+        Node::Binary(op, a, b) => {
+            step_binary(formula, values, words, op, a, b, walk.target, walk.source)
+        }
     }
 }

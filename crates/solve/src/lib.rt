@@ -48,7 +48,8 @@ pub fn solve(
 ) -> Result<Outcome, Refusal>
     ensures { result_of result values.new ≡ answer one file.now words.now budget values.old }
 {
-    let mut order = [0u32; 4000];
+    // A place for each node of an accepted file.
+    let mut order = [0; 4000];
     let layout = checks::check_order(file, &mut order)?;
     run(&FormulaView { file, layout }, &order, words, budget, values)
 }
