@@ -2,7 +2,7 @@
 // The word source, which replaces thread_rng: a place in a lent list of words. "a word source that has given a word is a new word
 // source, and a draw answers either the words and the source after them, or Dry". Dry is None: the caller still has its own
 // source, unmoved.
-ghost use Rattle.std.specs.Prelude.{◌≡◌, ◌+◌, ◌<◌};
+ghost use Rattle.std.specs.Prelude.{◌≡◌, ℕ, ◌+◌, ◌<◌, Bool};
 ghost use Rattle.words.specs.Words.{draw_at, multiple, even_at, range_at, coin_at, choosing_at, two_at, not_at, redraw_at, KeepsRest};
 
 #[derive(Clone, Copy)]
@@ -40,7 +40,7 @@ impl WordSource {
     // The first word that is kept; those passed over are among its words.
     fn first_kept<F: Fn(u64) -> bool>(self, words: &[u64], kept: F) -> Drawn<u64>
         requires { F.IsAlwaysCallable kept }
-        ensures { (drop : _) → KeepsRest (F.post kept) drop → result ≡ redraw_at drop words.now self.at }
+        ensures { (drop : ℕ → Bool) → KeepsRest (F.post kept) drop → result ≡ redraw_at drop words.now self.at }
     {
         let rest = words.get(self.at..)?;
         let passed = rest.iter().position(|&w| kept(w))?;
