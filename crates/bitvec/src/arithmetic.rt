@@ -40,7 +40,8 @@ impl Mul for BitVector {
 
     ghost mul_gives = { λ a b r. r.0 ≡ bvmul a.0 b.0 };
 
-    // The product's lower word, from the halves of 32 bits. The upper halves' own product is a multiple of 2^64.
+    // The product's lower word, from the halves of 32 bits. The upper halves' own product is a multiple of 2^64. (No wrapping_mul: the
+    // wrong edit cross_too_low speaks of the cross products.)
     fn mul(self, b: BitVector) -> BitVector {
         let x1 = self.0 / 0x1_0000_0000;
         let x0 = self.0 % 0x1_0000_0000;

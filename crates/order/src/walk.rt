@@ -1,5 +1,6 @@
 // The walk that arranges a graph: depth first, with a stack of its own. `place` says 0 of a node not met yet, 1 of an open one,
-// which is on the stack, and r + 2 of one that is done and has place r.
+// which is on the stack, and r + 2 of one that is done and has place r. (Numbers and no enum: callers lend plain numbers to `arrange`,
+// and the clauses of `step` speak of them.)
 ghost use Rattle.std.specs.Prelude.{◌≡◌, ◌+◌, ◌-◌, ◌≤◌, ◌<◌, set};
 ghost use Rattle.formula.specs.View.{graph};
 ghost use Rattle.order.specs.Finishing.{ahead, Steady};

@@ -110,6 +110,7 @@ pub enum Refusal {
 }
 
 impl Refusal {
+    // What programs print and C reads.
     pub fn number(self) -> u64
         ensures { result ≡ number_of self }
     {

@@ -1,6 +1,7 @@
 #![tactic(auto)]
 // Text into a lent buffer. A writer stores its text from a place on and answers the place after it; of a text that does not fit
 // the front is stored, and the answer is the same: so a writer on an empty buffer measures. No function here has a `requires`.
+// (No `write!` and Display: they say of no byte where it stands, as each clause here does, `Wrote t at out.old out.new result`.)
 ghost use Rattle.std.specs.Prelude.{◌≡◌, [], ◌∷◌, ◌++◌};
 ghost use Rattle.text.specs.Text.{Wrote, decimal};
 

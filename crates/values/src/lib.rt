@@ -1,6 +1,6 @@
 #![tactic(auto)]
 // monster.rs's compute_inverse_value, compute_consistent_value and compute_inverse_value_for_unary_op, with refusals where the source
-// panics, and the choice of `value`. Arguments as in the source, then the lent words and the source of words.
+// panics, and the choice of `value`. Arguments as in the source (so they are no struct), then the lent words and the source of words.
 ghost use Rattle.std.specs.Prelude.{◌≡◌};
 ghost use Rattle.rules.specs.Rules.{invert_at, value_at};
 ghost use Rattle.rules.specs.One.{one};
