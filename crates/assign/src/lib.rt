@@ -12,6 +12,7 @@ ghost use Rattle.assign.specs.Start as start;
 
 use bitvec::BitVector;
 use formula::{FormulaView, Node};
+use places::put;
 use symbols::{BVOperator, SymbolId};
 
 // A node's value; of an id that has none, 0.
@@ -25,11 +26,7 @@ pub fn value_at(values: &[u64], id: SymbolId) -> BitVector
 pub fn store(values: &mut [u64], id: SymbolId, v: BitVector)
     ensures { values.new ≡ set values.old id.0 v.0 }
 {
-    // By index: written through `get_mut`, it stays open that past the end nothing changes.
-    let i = id.0 as usize;
-    if i < values.len() {
-        values[i] = v.0;
-    }
+    put(values, id.0 as usize, v.0);
 }
 
 pub fn evaluate(op: BVOperator, x: BitVector, y: BitVector) -> BitVector

@@ -11,7 +11,7 @@ pub mod out;
 pub mod searching;
 pub mod single;
 
-use out::put;
+use places::put;
 
 // An operation of BitVector by its number (numbered/specs/Bitvec.antt): 1 and its value, or 0 and 0.
 pub fn bitvec_op(op: u64, a: u64, b: u64, out: &mut [u64])

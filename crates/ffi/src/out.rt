@@ -1,15 +1,8 @@
 // What the adapters leave in the lent buffer.
-ghost use Rattle.std.specs.Prelude.{◌≡◌, set};
+ghost use Rattle.std.specs.Prelude.{◌≡◌};
 ghost use Rattle.ffi.specs.Out.{three, six};
 
-// Stores an entry; past the end of the buffer, nothing.
-pub fn put(out: &mut [u64], i: usize, v: u64)
-    ensures { out.new ≡ set out.old i v }
-{
-    if i < out.len() {
-        out[i] = v;
-    }
-}
+use places::put;
 
 pub fn put_three(out: &mut [u64], a: u64, b: u64, c: u64)
     ensures { out.new ≡ three a b c out.old }

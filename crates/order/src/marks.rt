@@ -8,17 +8,6 @@ pub fn number_at(s: &[u32], at: u32) -> u32
     s.get(at as usize).copied().unwrap_or(0)
 }
 
-// Stores a number; past the end, nothing.
-pub fn put(s: &mut [u32], at: u32, v: u32)
-    ensures { s.new ≡ set s.old at v }
-{
-    let i = at as usize;
-    // By index: a write through `get_mut` does not show that nothing changes where there is no such place.
-    if i < s.len() {
-        s[i] = v;
-    }
-}
-
 // Zeros at the first n places.
 pub fn clear(s: &mut [u32], n: u32)
     ensures kept { length s.new ≡ length s.old }

@@ -2,8 +2,9 @@
 ghost use Rattle.std.specs.Prelude.{◌≡◌, ◌+◌, ◌≤◌};
 ghost use Rattle.order.specs.Spreading.{listing, meet_one, meet_all};
 
-use super::marks::{number_at, put};
+use super::marks::number_at;
 use formula::Node;
+use places::put;
 use symbols::SymbolId;
 
 // Lists a node that is not listed yet. The answer is how many are listed then. (4,001: the second operand comes after the first.)
@@ -14,8 +15,8 @@ fn meet(seen: &mut [u32], todo: &mut [u32], tail: u32, id: SymbolId) -> u32
     ensures one_more { result ≤ tail + 1 }
 {
     if number_at(seen, id.0) == 0 {
-        put(seen, id.0, 1);
-        put(todo, tail, id.0);
+        put(seen, id.0 as usize, 1);
+        put(todo, tail as usize, id.0);
         return tail + 1;
     }
     tail

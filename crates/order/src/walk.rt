@@ -6,8 +6,9 @@ ghost use Rattle.formula.specs.View.{graph};
 ghost use Rattle.order.specs.Finishing.{ahead, Steady};
 ghost use Rattle.order.specs.Walking.{look_by, move_of, Small, Walking, spent, Turned};
 
-use super::marks::{number_at, put};
+use super::marks::number_at;
 use formula::{FormulaView, Node};
+use places::put;
 use symbols::SymbolId;
 
 // The next id to begin at, how many nodes are open, and how many are done.
@@ -80,8 +81,8 @@ pub fn push(place: &mut [u32], stack: &mut [u32], w: Walk, id: SymbolId) -> Walk
     ensures depth { result.depth ≡ w.depth + 1 }
     ensures done { result.done ≡ w.done }
 {
-    put(place, id.0, 1);
-    put(stack, w.depth, id.0);
+    put(place, id.0 as usize, 1);
+    put(stack, w.depth as usize, id.0);
     Walk {
         depth: w.depth + 1,
         ..w
@@ -99,8 +100,8 @@ fn pop(place: &mut [u32], order: &mut [u32], w: Walk, u: u32) -> Walk
     ensures depth { result.depth ≡ w.depth - 1 }
     ensures done { result.done ≡ w.done + 1 }
 {
-    put(place, u, w.done + 2);
-    put(order, w.done, u);
+    put(place, u as usize, w.done + 2);
+    put(order, w.done as usize, u);
     Walk {
         depth: w.depth - 1,
         done: w.done + 1,

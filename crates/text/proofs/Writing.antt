@@ -74,12 +74,9 @@ pub wrote_kept_short : {most : ℕ} {s : Text} {at n : Place} {o p : Text} → W
 wrote_kept_short u = wrote_kept u.wrote
 
 -- put_byte
-pub byte_in : (b : ℕ) (at : Place) (o p : Text) (n : Place) → p ≡ set o at b → at < length o → n ≡ after at 1 → Wrote (b ∷ []) at o p n
+pub byte_put : (b : ℕ) (at : Place) (o p : Text) (n : Place) → p ≡ set o at b → n ≡ after at 1 → Wrote (b ∷ []) at o p n
 unfolding placed
-byte_in b at o p n e h r = record { buffer = e; place = r }
-
-pub byte_past : (b : ℕ) (at : Place) (o p : Text) (n : Place) → p ≡ o → length o ≤ at → n ≡ after at 1 → Wrote (b ∷ []) at o p n
-byte_past b at o p n e h r = record { buffer = e ∙ sym (placed_past (b ∷ []) at o h); place = r }
+byte_put b at o p n e r = record { buffer = e; place = r }
 
 -- put_text, after i bytes
 pub text_begin : (s : Text) (at : Place) (o : Text) → at < 2 ^ 64 → Wrote (take 0 s) at o o at

@@ -5,12 +5,13 @@
 ghost use Rattle.std.specs.Prelude.{◌≡◌, [], ◌∷◌, ◌++◌};
 ghost use Rattle.text.specs.Text.{Wrote, decimal};
 
+use places::put;
+
+#[tactic(auto, using(crate::proofs::Writing::byte_put))]
 pub fn put_byte(out: &mut [u8], at: usize, b: u8) -> usize
     ensures { Wrote (b ∷ []) at out.old out.new result }
 {
-    if at < out.len() {
-        out[at] = b;
-    }
+    put(out, at, b);
     at.saturating_add(1)
 }
 
