@@ -1,4 +1,4 @@
-// The rules of edition one for a single value.
+// The rules of edition one for a single value. Rules, operators and sides are numbers here, since C asks by them.
 ghost use Rattle.std.specs.Prelude.{◌≡◌};
 ghost use Rattle.values.specs.Answers.{answer_of, unary_of};
 ghost use Rattle.ffi.specs.Rules.{side_no, valued, unaried, asked, ruled, wrote};

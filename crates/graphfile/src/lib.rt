@@ -26,6 +26,7 @@ pub fn read_full<R: Read>(source: &mut R, buffer: &mut [u8]) -> usize
     ensures bytes { Consumes (R.remaining source.old) (R.remaining source.new) (take result buffer.new) }
 {
     let mut done = 0;
+    // A read may give fewer bytes than there is room for, so this is no counted loop.
     while done < buffer.len() {
         let n = read_some(source, &mut buffer[done..]);
         if n == 0 {

@@ -1,5 +1,5 @@
 #![tactic(auto)]
-// The operations of BitVector by their numbers, as the comparison asks for them.
+// The operations of BitVector by their numbers, as C asks for them (so they are no enum).
 ghost use Rattle.std.specs.Prelude.{◌≡◌};
 ghost use Rattle.numbered.specs.Bitvec.{bitvec_op, text_byte};
 

@@ -43,7 +43,7 @@ pub enum BVOperator {
 }
 
 impl BVOperator {
-    // The operator of a kind's number.
+    // The operator of a kind's number. (No TryFrom: nobody would read its error.)
     #[tactic(auto, unfolding(crate::specs::Operators::operator_of, laws::specs::Rows::first))]
     pub fn from_number(n: u64) -> Option<BVOperator>
         ensures { result ≡ operator_of n }
@@ -110,7 +110,7 @@ pub enum Refusal {
 }
 
 impl Refusal {
-    // What programs print and C reads.
+    // What programs print and C reads. (No From: `u64::from(r)` would not say which number.)
     pub fn number(self) -> u64
         ensures { result ≡ number_of self }
     {
