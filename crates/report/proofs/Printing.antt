@@ -1,7 +1,7 @@
 -- One law for each `return`. Assumes nothing.
 use Prim.Native.Nat.{ℕ, ◌+◌, ◌*◌, ◌^◌, ◌≤◌, ◌<◌}
 use mathlib.Core.Path.{◌≡◌}
-use mathlib.Core.List.{[], ◌++◌}
+use mathlib.Core.List.{[], ◌++◌, append_assoc}
 use native.Mathlib.Numerals.{add-one}
 use native.Mathlib.Omega.{arith}
 use lib.ListN.{length, length-append}
@@ -25,6 +25,12 @@ module _ (at a b c d : Place) (o p q s t : Text) (fits : length o < 2 ^ 64) wher
   unfolding input_line
   input_line_lem i l v hi hl hv u w y z = record { wrote = wrote_append fits (wrote_append fits (wrote_append fits u w) y) z; short = input_length i l v hi hl hv }
 
+  -- put_counts
+  pub four_counts : (x : Outcome) → Wrote (field " rounds=" x.rounds) at o p a → Wrote (field " lost=" x.lost) a p q b → Wrote (field " steps=" x.steps) b q s c → Wrote (field " words=" x.words) c s t d
+      → Wrote (counts (out_of x [])) at o t d
+  unfolding counts
+  four_counts x u v w y = rw (← append_assoc (field " rounds=" x.rounds ++ field " lost=" x.lost) (field " steps=" x.steps) (field " words=" x.words)) (wrote_append fits (wrote_append fits (wrote_append fits u v) w) y)
+
 module _ (at a b c : Place) (o p q s : Text) (fits : length o < 2 ^ 64) where
   -- put_first
   pub first_line_lem : (x : Outcome) → x.rounds < 2 ^ 32 → x.lost < 2 ^ 32 → x.steps < 2 ^ 32 → x.words < 2 ^ 64
@@ -34,12 +40,6 @@ module _ (at a b c : Place) (o p q s : Text) (fits : length o < 2 ^ 64) where
       → WroteUpTo 85 (first_line (out_of x [])) at o s c
   unfolding first_line
   first_line_lem x hr hl hs hw u v w = record { wrote = wrote_append fits (wrote_append fits u v) w; short = first_length (out_of x []) hr hl hs hw }
-
--- put_counts
-pub four_counts : (x : Outcome) (at a b : Place) (o p q : Text) → length o < 2 ^ 64 → Wrote (field " rounds=" x.rounds ++ field " lost=" x.lost) at o p a → Wrote (field " steps=" x.steps ++ field " words=" x.words) a p q b
-    → Wrote (counts (out_of x [])) at o q b
-unfolding counts
-four_counts x at a b o p q fits u v = wrote_append fits u v
 
 -- result
 pub whole_result : (x : Outcome) (f : File) (m : Formula) (vs : Values) (a b : Place) (o p q : Text) → length o < 2 ^ 64

@@ -1,11 +1,11 @@
 #![tactic(auto)]
 // What the program prints of a search, into a lent buffer. No function here has a `requires`.
-ghost use Rattle.std.specs.Prelude.{◌≡◌, ◌+◌, ◌*◌, [], ◌++◌};
+ghost use Rattle.std.specs.Prelude.{◌+◌, ◌*◌, []};
 ghost use Rattle.text.specs.Text.{Wrote, WroteUpTo};
 ghost use Rattle.formula.specs.Graph.{node_is};
 ghost use Rattle.formula.specs.View.{graph};
 ghost use Rattle.turns.specs.Turn.{end_of, out_of};
-ghost use Rattle.report.specs.Report.{field, end_word, counts, first_line, input_line, line_of, lines_below, result_text};
+ghost use Rattle.report.specs.Report.{end_word, counts, first_line, input_line, line_of, lines_below, result_text};
 
 use formula::{FormulaView, Node};
 use symbols::SymbolId;
@@ -22,25 +22,13 @@ fn put_end(out: &mut [u8], at: usize, e: End) -> usize
     }
 }
 
-fn put_rounds(out: &mut [u8], at: usize, rounds: u32, lost: u32) -> usize
-    ensures { Wrote (field " rounds=" rounds ++ field " lost=" lost) at out.old out.new result }
-{
-    let a = put_field(out, at, b" rounds=", rounds as u64);
-    put_field(out, a, b" lost=", lost as u64)
-}
-
-fn put_taken(out: &mut [u8], at: usize, steps: u32, words: usize) -> usize
-    ensures { Wrote (field " steps=" steps ++ field " words=" words) at out.old out.new result }
-{
-    let a = put_field(out, at, b" steps=", steps as u64);
-    put_field(out, a, b" words=", words as u64)
-}
-
 fn put_counts(out: &mut [u8], at: usize, o: Outcome) -> usize
     ensures { Wrote (counts (out_of o [])) at out.old out.new result }
 {
-    let a = put_rounds(out, at, o.rounds, o.lost);
-    put_taken(out, a, o.steps, o.words)
+    let a = put_field(out, at, b" rounds=", o.rounds as u64);
+    let b = put_field(out, a, b" lost=", o.lost as u64);
+    let c = put_field(out, b, b" steps=", o.steps as u64);
+    put_field(out, c, b" words=", o.words as u64)
 }
 
 fn put_first(out: &mut [u8], at: usize, o: Outcome) -> usize
