@@ -53,7 +53,7 @@ impl Shl<u32> for BitVector {
     ghost shl_gives = { λ a k r. r.0 ≡ bvshl a.0 (k % 64) };
 
     fn shl(self, k: u32) -> BitVector {
-        BitVector(self.0 << (k % 64))
+        BitVector(self.0.wrapping_shl(k))
     }
 }
 
@@ -63,6 +63,6 @@ impl Shr<u32> for BitVector {
     ghost shr_gives = { λ a k r. r.0 ≡ bvlshr a.0 (k % 64) };
 
     fn shr(self, k: u32) -> BitVector {
-        BitVector(self.0 >> (k % 64))
+        BitVector(self.0.wrapping_shr(k))
     }
 }

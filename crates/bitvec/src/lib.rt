@@ -3,8 +3,8 @@
 ghost use Rattle.std.specs.Prelude.{◌≡◌, ◌%◌, ◌==◌};
 ghost use Rattle.bitvec.specs.Word.{M, sltu, equals, is_zero, ctz, addo, mulo};
 
-pub mod arithmetic;
-pub mod bits;
+mod arithmetic;
+mod bits;
 pub mod debug;
 pub mod inverse;
 pub mod product;
@@ -60,7 +60,7 @@ impl BitVector {
     pub fn addo(self, b: BitVector) -> bool
         ensures { result ≡ addo self.0 b.0 }
     {
-        u64::MAX - self.0 < b.0
+        self.0.checked_add(b.0).is_none()
     }
 
     pub fn mulo(self, b: BitVector) -> bool

@@ -17,7 +17,8 @@ impl BitVector {
     //                 ---------------  |   ---------------
     //                   upper word     |     lower word
     //
-    // `middle` is the sum of the column of 2^32, and c = hi middle is 0, 1 or 2. The column of 1 carries nothing.
+    // `middle` is the sum of the column of 2^32, and c = hi middle is 0, 1 or 2. The column of 1 carries nothing. (No u128: the wrong
+    // edits carry_dropped and own_halves speak of the columns.)
     pub fn mulhi(self, b: BitVector) -> BitVector
         ensures { result.0 * 2 ^ 64 + bvmul self.0 b.0 ≡ self.0 * b.0 }
     {

@@ -19,7 +19,7 @@ pub fn check_file(file: &[u8], out: &mut [u64])
     ensures { out.new ≡ checked (verdict file.now) out.old }
 {
     match checks::check(file) {
-        Ok(m) => put_three(out, 0, m.count as u64, m.root.0 as u64),
+        Ok(layout) => put_three(out, 0, layout.count as u64, layout.root.0 as u64),
         Err(r) => put_three(out, r.number(), id_of(r), 0),
     }
 }

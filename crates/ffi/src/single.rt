@@ -82,10 +82,7 @@ fn rule(
 ) -> Fields
     ensures { result ≡ ruled number op side s.0 t.0 words.now at }
 {
-    let Some(op) = BVOperator::from_number(op) else {
-        return Fields(99, 0, at as u64);
-    };
-    let Some(d) = side_no(side) else {
+    let (Some(op), Some(d)) = (BVOperator::from_number(op), side_no(side)) else {
         return Fields(99, 0, at as u64);
     };
     ask(number, op, d, s, t, words, at)

@@ -22,7 +22,7 @@ pub struct FormulaView<'a> {
     pub layout: Formula,
 }
 
-impl FormulaView<'_> {
+impl<'a> FormulaView<'a> {
     pub fn count(&self) -> u32
         ensures { result ≡ self.now.layout.count }
     {
@@ -37,7 +37,7 @@ impl FormulaView<'_> {
 
     // "the record of a node is those sixteen bytes of the file itself": of an id not below the count the empty part, and of a
     // formula that is not the file's own what the file has there.
-    pub fn lookup(&self, id: SymbolId) -> &[u8]
+    pub fn lookup(&self, id: SymbolId) -> &'a [u8]
         ensures { result.now ≡ record_at self.now.file.now self.now.layout id.0 }
     {
         if self.layout.count <= id.0 {

@@ -20,7 +20,7 @@ fn measure(formula: &FormulaView, order: &[u32]) -> usize
     ensures length { result ≡ length (lines (graph formula.now) order.now) }
     ensures most { result ≤ 164000 }
 {
-    // A `for`: of a chain's `sum` no bound of so many bytes a line is known.
+    // A `for`, since of an iterator's `sum` no bound of so many bytes a line is known.
     let mut n = 0;
     for &i in order {
         let id = SymbolId(i);

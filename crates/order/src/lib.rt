@@ -16,8 +16,8 @@ pub mod marks;
 pub mod spread;
 pub mod walk;
 
-// Every node once, each behind its operands; or false, where some node reaches itself. (Three buffers and no struct: each is lent by itself,
-// of any length that suffices, and the caller goes on with `order` alone.)
+// Every node once, each behind its operands; or false, where some node reaches itself. (Three buffers and no struct: each is lent
+// by itself, of any length that suffices, and the caller goes on with `order` alone.)
 pub fn arrange(
     formula: &FormulaView,
     place: &mut [u32],

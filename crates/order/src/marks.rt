@@ -1,5 +1,5 @@
 // Numbers by id, in a lent buffer.
-ghost use Rattle.std.specs.Prelude.{◌≡◌, ℕ, ◌<◌, length, get_or, set};
+ghost use Rattle.std.specs.Prelude.{◌≡◌, ℕ, ◌<◌, length, get_or};
 
 // The number at a place; past the end, 0.
 pub fn number_at(s: &[u32], at: u32) -> u32

@@ -109,7 +109,8 @@ fn pop(place: &mut [u32], order: &mut [u32], w: Walk, u: u32) -> Walk
     }
 }
 
-// One turn at the top of the stack, or nothing where some node reaches itself. What it leaves to list is what it found to list: `gather` rests on that.
+// One turn at the top of the stack, or nothing where some node reaches itself. What it leaves to list is what it found to list:
+// `gather` rests on that.
 pub fn advance(
     formula: &FormulaView,
     place: &mut [u32],

@@ -54,7 +54,7 @@ fn put_line(out: &mut [u8], at: usize, id: u32, n: Node, v: u64) -> usize
 {
     match n {
         Node::Input(p) => put_input(out, at, id, p.label, v),
-        Node::Constant(_) | Node::Unary(_) | Node::Binary(_, _, _) => at,
+        Node::Constant(_) | Node::Unary(_) | Node::Binary(..) => at,
     }
 }
 

@@ -2,7 +2,7 @@
 // Text into a lent buffer. A writer stores its text from a place on and answers the place after it; of a text that does not fit
 // the front is stored, and the answer is the same: so a writer on an empty buffer measures. No function here has a `requires`.
 // (No `write!` and Display: they say of no byte where it stands, as each clause here does, `Wrote t at out.old out.new result`.)
-ghost use Rattle.std.specs.Prelude.{◌≡◌, [], ◌∷◌, ◌++◌};
+ghost use Rattle.std.specs.Prelude.{[], ◌∷◌, ◌++◌};
 ghost use Rattle.text.specs.Text.{Wrote, decimal};
 
 use places::put;
@@ -29,6 +29,7 @@ pub fn put_text(out: &mut [u8], at: usize, text: &[u8]) -> usize
 pub fn put_decimal(out: &mut [u8], at: usize, v: u64) -> usize
     ensures { Wrote (decimal v) at out.old out.new result }
 {
+    // The edit leading_zero speaks of this test.
     let one_digit = v < 10;
     if one_digit {
         put_byte(out, at, b'0' + v as u8)

@@ -102,6 +102,7 @@ fn land(
         Node::Constant(_) => lose(values, root, s),
         Node::Input(p) => {
             let t = s.walk.target;
+            // No guard of the arm: two edits speak of this test and of its other branch.
             if p.fits(t) {
                 assign::update_assignment(formula, order, values, id, t);
                 let after = State {

@@ -28,7 +28,7 @@ pub struct Chosen {
     pub source: WordSource,
 }
 
-// The words ran out; the source before the value that was left unfinished.
+// The words ran out; the source before what could not be drawn.
 #[derive(Clone, Copy)]
 pub struct RanDry {
     pub source: WordSource,

@@ -65,7 +65,7 @@ impl WordSource {
         ensures { result ≡ range_at words.now self.at a b }
     {
         let most = b.checked_sub(a)?;
-        // Of everything no word is discarded.
+        // A range of all words discards none.
         let Some(m) = most.checked_add(1) else {
             return self.draw(words);
         };
