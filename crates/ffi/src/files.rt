@@ -4,7 +4,7 @@ ghost use Rattle.symbols.specs.Refusals.{values_of};
 ghost use Rattle.checks.specs.Refusals.{verdict};
 ghost use Rattle.ffi.specs.Files.{checked};
 
-use super::out::put_three;
+use super::out::put_fields;
 use symbols::Refusal;
 
 // The id that a refusal names, else 0.
@@ -19,7 +19,7 @@ pub fn check_file(file: &[u8], out: &mut [u64])
     ensures { out.new ≡ checked (verdict file.now) out.old }
 {
     match checks::check(file) {
-        Ok(layout) => put_three(out, 0, layout.count as u64, layout.root.0 as u64),
-        Err(r) => put_three(out, r.number(), id_of(r), 0),
+        Ok(layout) => put_fields(out, &[0, layout.count as u64, layout.root.0 as u64]),
+        Err(r) => put_fields(out, &[r.number(), id_of(r), 0]),
     }
 }

@@ -4,44 +4,34 @@ ghost use Rattle.checks.specs.Refusals.{verdict};
 ghost use Rattle.monster.specs.Step.{choice_of, step_of};
 ghost use Rattle.rules.specs.One.{one};
 ghost use Rattle.solve.specs.Solve.{answer};
-ghost use Rattle.turns.specs.Turn.{end_of};
-ghost use Rattle.ffi.specs.Search.{end_no, solved, values_after, side_number, choice_no, choice_side, stepped, stepped_on};
+ghost use Rattle.ffi.specs.Search.{solved, values_after, choice_no, choice_side, stepped, stepped_on};
 
 use super::files::id_of;
-use super::out::put_six;
+use super::out::put_fields;
 use bitvec::BitVector;
 use formula::FormulaView;
 use monster::{Choice, Walk};
-use symbols::{OperandSide, SymbolId};
-use turns::End;
+use symbols::{Refusal, SymbolId};
 use values::RanDry;
 use words::WordSource;
-
-fn end_no(e: End) -> u64
-    ensures { result ≡ end_no (end_of e) }
-{
-    match e {
-        End::Solved => 0,
-        End::Spent => 1,
-        End::Dry => 2,
-    }
-}
 
 // 0, how it ended (0 solved, 1 spent, 2 dry), rounds, lost rounds, steps and words; or the refusal's number and the id that it names.
 pub fn solve_file(file: &[u8], words: &[u64], budget: u32, values: &mut [u64], out: &mut [u64])
     ensures { (out.new ≡ solved (answer one file.now words.now budget values.old) out.old) × (values.new ≡ values_after (answer one file.now words.now budget values.old)) }
 {
     match solve::solve(file, words, budget, values) {
-        Ok(o) => put_six(
+        Ok(o) => put_fields(
             out,
-            0,
-            end_no(o.end),
-            o.rounds as u64,
-            o.lost as u64,
-            o.steps as u64,
-            o.words as u64,
+            &[
+                0,
+                o.end as u64,
+                o.rounds as u64,
+                o.lost as u64,
+                o.steps as u64,
+                o.words as u64,
+            ],
         ),
-        Err(r) => put_six(out, r.number(), id_of(r), 0, 0, 0, 0),
+        Err(r) => put_fields(out, &[r.number(), id_of(r), 0, 0, 0, 0]),
     }
 }
 
@@ -55,21 +45,12 @@ fn choice_no(c: Choice) -> u64
     }
 }
 
-fn side_no(d: OperandSide) -> u64
-    ensures { result ≡ side_number d }
-{
-    match d {
-        OperandSide::Lhs => 0,
-        OperandSide::Rhs => 1,
-    }
-}
-
 fn choice_side(c: Choice) -> u64
     ensures { result ≡ choice_side (choice_of c) }
 {
     match c {
         Choice::Not => 0,
-        Choice::Inverse(d) | Choice::Consistent(d) => side_no(d),
+        Choice::Inverse(d) | Choice::Consistent(d) => d as u64,
     }
 }
 
@@ -77,16 +58,21 @@ fn write_step(step: Result<(Walk, Choice), RanDry>, out: &mut [u64])
     ensures { out.new ≡ stepped (step_of step) out.old }
 {
     match step {
-        Ok((walk, choice)) => put_six(
+        Ok((walk, choice)) => put_fields(
             out,
-            0,
-            walk.node.0 as u64,
-            walk.target.0,
-            walk.source.at as u64,
-            choice_no(choice),
-            choice_side(choice),
+            &[
+                0,
+                walk.node.0 as u64,
+                walk.target.0,
+                walk.source.at as u64,
+                choice_no(choice),
+                choice_side(choice),
+            ],
         ),
-        Err(dry) => put_six(out, 12, dry.source.at as u64, 0, 0, 0, 0),
+        Err(dry) => put_fields(
+            out,
+            &[Refusal::Dry.number(), dry.source.at as u64, 0, 0, 0, 0],
+        ),
     }
 }
 
@@ -116,6 +102,6 @@ pub fn step_op(
                 out,
             );
         }
-        Err(r) => put_six(out, r.number(), id_of(r), 0, 0, 0, 0),
+        Err(r) => put_fields(out, &[r.number(), id_of(r), 0, 0, 0, 0]),
     }
 }

@@ -1,9 +1,9 @@
 // The rules of edition one for a single value. Rules, operators and sides are numbers here, since C asks by them.
 ghost use Rattle.std.specs.Prelude.{◌≡◌};
-ghost use Rattle.values.specs.Answers.{answer_of, unary_of};
-ghost use Rattle.ffi.specs.Rules.{side_no, valued, unaried, asked, ruled, wrote};
+ghost use Rattle.values.specs.Answers.{answer_of};
+ghost use Rattle.ffi.specs.Rules.{side_no, valued, asked, ruled, wrote};
 
-use super::out::put_three;
+use super::out::put_fields;
 use bitvec::BitVector;
 use reach::is_invertible;
 use symbols::{BVOperator, OperandSide, Refusal};
@@ -33,15 +33,6 @@ fn of_valued(v: Result<(BitVector, WordSource), Refusal>, at: usize) -> Fields
     }
 }
 
-fn of_unary(v: Result<BitVector, Refusal>, at: usize) -> Fields
-    ensures { result ≡ unaried (unary_of v) at }
-{
-    match v {
-        Ok(x) => Fields(0, x.0, at as u64),
-        Err(r) => Fields(r.number(), 0, at as u64),
-    }
-}
-
 #[tactic(auto, unfolding(crate::specs::Rules::asked, laws::specs::Rows::first))]
 fn ask(
     number: u64,
@@ -65,7 +56,10 @@ fn ask(
             values::compute_consistent_value(op, t, d, words, source),
             at,
         ),
-        3 => of_unary(values::compute_inverse_value_for_unary_op(op, t), at),
+        3 => {
+            let value = values::compute_inverse_value_for_unary_op(op, t);
+            of_valued(value.map(|x| (x, source)), at)
+        }
         _ => Fields(99, 0, at as u64),
     }
 }
@@ -103,5 +97,5 @@ pub fn rule_op(
     ensures { out.new ≡ wrote (ruled number op side s t words.now at) out.old }
 {
     let f = rule(number, op, side, BitVector(s), BitVector(t), words, at);
-    put_three(out, f.0, f.1, f.2);
+    put_fields(out, &[f.0, f.1, f.2]);
 }
