@@ -1,6 +1,8 @@
 #![tactic(auto)]
 // The values of all nodes: the start, and the pass that works every operator out, along a lent order in which operands come
 // first. No function here has a `requires`.
+// (The formula, the order, the words and the values stay apart, here and in the crates above: in a struct of loans each clause would
+// read `graph s.now.formula.now` and `s.now.order.now` for `graph formula.now` and `order.now`.)
 ghost use Rattle.std.specs.Prelude.{◌≡◌, ◌≤◌, get_or, set};
 ghost use Rattle.symbols.specs.Operators.{apply};
 ghost use Rattle.formula.specs.Graph.{node_is};
@@ -97,6 +99,7 @@ fn takes(n: Node) -> u32
 pub fn wanted(formula: &FormulaView) -> u32
     ensures { result ≡ start.wanted (graph formula.now) }
 {
+    // A `for`, since of an iterator's `count` no bound is known that fits a u32.
     let mut count: u32 = 0;
     for i in 0..formula.count() {
         count += takes(formula.node(SymbolId(i)));

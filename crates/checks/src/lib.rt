@@ -125,7 +125,8 @@ fn check_records(formula: &FormulaView) -> Result<(), Refusal>
     Ok(())
 }
 
-// The lowest id that reaches itself.
+// The lowest id that reaches itself. (What it and `check_cycles` require is what `order`'s functions do, which take any view and any
+// buffers that suffice.)
 fn first_cycle(formula: &FormulaView, seen: &mut [u32], todo: &mut [u32]) -> Result<(), Refusal>
     requires inside { Inside (graph formula.now) }
     requires few { formula.now.layout.count ≤ 4000 }

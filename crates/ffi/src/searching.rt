@@ -1,4 +1,4 @@
-// The search, and one step of it.
+// The search, and one step of it, in numbers, since C reads them.
 ghost use Rattle.std.specs.Prelude.{◌≡◌};
 ghost use Rattle.checks.specs.Refusals.{verdict};
 ghost use Rattle.monster.specs.Step.{choice_of, step_of};

@@ -2,6 +2,7 @@
 ghost use Rattle.std.specs.Prelude.{◌≡◌, get_or};
 ghost use Rattle.formula.specs.File.{le32, le64, zeros};
 
+// (The library's form for any slice; `number_at` of `order` is the same of ids.)
 pub fn byte_at(s: &[u8], at: usize) -> u8
     ensures { result ≡ get_or s.now at 0 }
 {

@@ -1,5 +1,7 @@
 #![tactic(auto)]
 // One step of the search: which operand is sought, and the value that is passed to it. No function here has a `requires`.
+// (An operator, its operands and its target are parameters, in the order of `way_at`: a node's `Node` and `Walk` are taken apart once, in
+// `step`.)
 ghost use Rattle.std.specs.Prelude.{◌≡◌};
 ghost use Rattle.formula.specs.Graph.{node_is};
 ghost use Rattle.formula.specs.View.{graph};

@@ -58,7 +58,7 @@ fn next_move(n: Node, place: &[u32]) -> Move
     }
 }
 
-// The next node is met already.
+// The next node is met already. (`Small` is asked, and no part of `Walk`, whose fields are anyone's to write.)
 fn skip(w: Walk) -> Walk
     requires { Small w }
     ensures next { result.next ≡ w.next + 1 }

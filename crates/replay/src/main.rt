@@ -16,7 +16,7 @@ fn part(s: &[u8], at: usize, k: usize) -> &[u8] {
     rest.get(..k).unwrap_or(rest)
 }
 
-// Field k of an entry's head; there are twelve.
+// Field k of an entry's head; there are twelve, and kinds, rules, operators and sides are numbers in the list as they are for C.
 fn field(head: &[u8], k: u32) -> u64 {
     u32_at(head, k.saturating_mul(4)) as u64
 }
