@@ -17,8 +17,8 @@ pub mod spread;
 pub mod walk;
 
 // Every node once, each behind its operands; or false, where some node reaches itself. (Three buffers and no struct: each is lent
-// by itself, of any length that suffices, and the caller goes on with `order` alone; and no view with `inside` and `few` in its type, which
-// would take fewer views than these clauses do.)
+// by itself, of any length that suffices, and the caller goes on with `order` alone. And no view with `inside` and `few` in its type,
+// which would take fewer views than these clauses do.)
 pub fn arrange(
     formula: &FormulaView,
     place: &mut [u32],

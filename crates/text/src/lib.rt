@@ -1,8 +1,9 @@
 #![tactic(auto)]
 // Text into a lent buffer. A writer stores its text from a place on and answers the place after it; of a text that does not fit
 // the front is stored, and the answer is the same: so a writer on an empty buffer measures. No function here has a `requires`.
-// (No `write!` and Display, here and in the writers above: they say of no byte where it stands, as each clause does, `Wrote t at out.old
-// out.new result`. And no cursor that holds the buffer: each line's writer is lent the rest of the buffer from its cursor.)
+// (No `write!` and Display, here and in the writers above: they say of no byte where it stands, as each clause does,
+// `Wrote t at out.old out.new result`. And no cursor that holds the buffer: each line's writer is lent the rest of the buffer from its
+// cursor.)
 ghost use Rattle.std.specs.Prelude.{[], ◌∷◌, ◌++◌};
 ghost use Rattle.text.specs.Text.{Wrote, decimal};
 

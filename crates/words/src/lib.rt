@@ -6,7 +6,7 @@ ghost use Rattle.std.specs.Prelude.{◌≡◌, ℕ, ◌+◌, ◌<◌, Bool};
 ghost use Rattle.words.specs.Words.{draw_at, multiple, even_at, range_at, coin_at, choosing_at, two_at, not_at, redraw_at, KeepsRest};
 
 // The place alone, and the list beside it in each call: a draw that is answered is the same value on every longer list
-// (`range_longer` and its kin in proofs/Draws.antt), which it would not be with the list in it.
+// (`range_longer` and its kin in proofs/Draws.antt), which it would not be with the list in it. So words and source stay two parameters.
 #[derive(Clone, Copy)]
 pub struct WordSource {
     pub at: usize,
