@@ -18,7 +18,7 @@ use Rattle.visits.proofs.Has.{not_both, refuted, split_of, has_last, has_more}
 use Rattle.visits.proofs.Listed.{listed_tidy, listed_exactly}
 use Rattle.listing.specs.Listing.{line_of, lines, listing}
 use Rattle.listing.specs.Answer.{written, refuse, fitted}
-use Rattle.listing.proofs.Lines.{lines_append}
+use Rattle.listing.proofs.Prefixes.{lines_append}
 
 has_here : (p q : Ids) (i : Id) → has (p ++ i ∷ q) i ≡ true
 has_here p q i = rw (← append_snoc p i q) (has_more (p ++ (i ∷ [])) q i (has_last p i))

@@ -1,6 +1,6 @@
 pub mod Lengths
 pub mod Printing
-pub mod Lines
+pub mod Prefixes
 pub mod Fitting
 pub mod Accepting
 pub mod Laws

@@ -1,7 +1,7 @@
 use native.Mathlib.Omega.{arith}
 use borrow.Author.Rules.{rules}
-use Rattle.listing.proofs.Lines.{measure_begin, measure_more, measure_end}
-use Rattle.listing.proofs.measure.Goals as goal
+use Rattle.listing.proofs.Prefixes.{measure_begin, measure_more, measure_end}
+use Rattle.listing.proofs.lines.Lines.measure.Goals as goal
 
 pub loop-i-init : goal.loop-i-init
 loop-i-init c = (search (measure_begin, rules), omega arith)

@@ -1,7 +1,7 @@
 use native.Mathlib.Omega.{arith}
 use borrow.Author.Rules.{rules}
-use Rattle.listing.proofs.Lines.{write_begin, write_more, write_inside, write_end}
-use Rattle.listing.proofs.write.Goals as goal
+use Rattle.listing.proofs.Prefixes.{write_begin, write_more, write_inside, write_end}
+use Rattle.listing.proofs.lines.Lines.write.Goals as goal
 
 pub loop-i-init : goal.loop-i-init
 loop-i-init c = (search (write_begin, rules), omega arith)
