@@ -3,7 +3,7 @@ use Rattle.std.specs.declared.ops.ControlFlow.{ControlFlow}
 use Rattle.std.specs.declared.ops.ControlFlow.TheVariants.{Continue, Break}
 use Rattle.search.specs.Machine as machine
 use Rattle.search.specs.Machine.{Values, St, solved, spent, ran_dry, Out, Next, done, on}
-use Rattle.turns.specs.declared.State.{State}
+use Rattle.turns.specs.declared.state.State.{State}
 use Rattle.turns.specs.declared.End.{End}
 use Rattle.turns.specs.declared.End.TheVariants as end
 use Rattle.turns.specs.declared.Outcome.{Outcome}

@@ -1,27 +1,21 @@
 #![tactic(auto)]
 // The search: turns while steps are left. A turn is a step and, where it comes to a leaf, the end of the round.
-ghost use Rattle.std.specs.Prelude.{◌≡◌, [], ◌-◌, ◌≤◌, ◌<◌};
+ghost use Rattle.std.specs.Prelude.{◌≡◌, [], ◌-◌, ◌<◌};
 ghost use Rattle.formula.specs.View.{graph};
 ghost use Rattle.search.specs.Machine.{round, missed, landing_at, reached, turn_of, run_from, search_of};
 ghost use Rattle.rules.specs.One.{one};
 ghost use Rattle.monster.specs.Step.{play_along};
-ghost use Rattle.turns.specs.Turn.{st_of, outcome_of, out_of, next_of};
+ghost use Rattle.turns.specs.Turn.{st_of, out_of, next_of};
 
 use bitvec::BitVector;
 use formula::{FormulaView, Node};
 use monster::Walk;
+use state::State;
 use std::ops::ControlFlow;
 use symbols::SymbolId;
 use words::WordSource;
 
-// Where the search stands, with the rounds completed, the lost ones among them, and the steps completed.
-#[derive(Clone, Copy)]
-struct State {
-    walk: Walk,
-    rounds: u32,
-    lost: u32,
-    steps: u32,
-}
+mod state;
 
 #[derive(Clone, Copy)]
 pub enum End {
@@ -39,21 +33,6 @@ pub struct Outcome {
     pub words: usize,
 }
 
-impl State {
-    // The search over, where it stands.
-    fn ended(self, end: End) -> Outcome
-        ensures { result ≡ outcome_of end self }
-    {
-        Outcome {
-            end,
-            rounds: self.rounds,
-            lost: self.lost,
-            steps: self.steps,
-            words: self.walk.source.at,
-        }
-    }
-}
-
 // "Rounds start while the root is not 1", and each "starts at the root with target 1".
 #[tactic(auto, unfolding(search::specs::Machine::round))]
 fn next_round(values: &[u64], root: SymbolId, s: State) -> ControlFlow<Outcome, State>
@@ -67,19 +46,24 @@ fn next_round(values: &[u64], root: SymbolId, s: State) -> ControlFlow<Outcome, 
         target: BitVector(1),
         ..s.walk
     };
-    ControlFlow::Continue(State { walk, ..s })
+    ControlFlow::Continue(State {
+        walk,
+        rounds: s.rounds,
+        lost: s.lost,
+        steps: s.steps,
+    })
 }
 
 // "a lost round: nothing changes, the search goes on"
 fn lose(values: &[u64], root: SymbolId, s: State) -> ControlFlow<Outcome, State>
-    requires rounds { s.rounds < u32.MAX }
-    requires lost { s.lost < u32.MAX }
+    requires { s.rounds < s.steps }
     ensures { next_of result values.now ≡ round root.0 (missed (st_of s values.now)) }
 {
     let after = State {
+        walk: s.walk,
         rounds: s.rounds + 1,
         lost: s.lost + 1,
-        ..s
+        steps: s.steps,
     };
     next_round(values, root, after)
 }
@@ -92,8 +76,7 @@ fn land(
     values: &mut [u64],
     s: State,
 ) -> ControlFlow<Outcome, State>
-    requires rounds { s.rounds < u32.MAX }
-    requires lost { s.lost < u32.MAX }
+    requires { s.rounds < s.steps }
     ensures { next_of result values.new ≡ reached (play_along one (graph formula.now) order.now []) (landing_at (graph formula.now) (st_of s values.old)) (st_of s values.old) }
 {
     let root = formula.root();
@@ -106,8 +89,10 @@ fn land(
             if p.fits(t) {
                 assign::update_assignment(formula, order, values, id, t);
                 let after = State {
+                    walk: s.walk,
                     rounds: s.rounds + 1,
-                    ..s
+                    lost: s.lost,
+                    steps: s.steps,
                 };
                 next_round(values, root, after)
             } else {
@@ -126,17 +111,16 @@ fn take_turn(
     values: &mut [u64],
     s: State,
 ) -> ControlFlow<Outcome, State>
-    requires rounds { s.rounds ≤ s.steps }
-    requires lost { s.lost ≤ s.rounds }
-    requires steps { s.steps < u32.MAX }
+    requires { s.steps < u32.MAX }
     ensures { next_of result values.new ≡ turn_of (play_along one (graph formula.now) order.now words.now) (st_of s values.old) }
 {
     match monster::step(formula, values, words, s.walk) {
         Ok((walk, _)) => {
             let after = State {
                 walk,
+                rounds: s.rounds,
+                lost: s.lost,
                 steps: s.steps + 1,
-                ..s
             };
             land(formula, order, values, after)
         }
@@ -156,8 +140,6 @@ fn turns(
     mut s: State,
     budget: u32,
 ) -> Outcome
-    requires rounds { s.rounds ≤ s.steps }
-    requires lost { s.lost ≤ s.rounds }
     ensures { out_of result values.new ≡ run_from (play_along one (graph formula.now) order.now words.now) (budget - s.steps) (st_of s values.old) }
 {
     // The paper's sentence, and so no `for`: "Before each step, used steps = budget ends it as Spent."
@@ -200,7 +182,11 @@ pub fn sat(
         Node::Constant(_) => start.ended(End::Spent),
         Node::Input(_) => {
             assign::update_assignment(formula, order, values, root, BitVector(1));
-            State { rounds: 1, ..start }.ended(End::Solved)
+            // "A root input not yet 1 needs one round and no step", and no state has more rounds than steps: the outcome alone tells it.
+            Outcome {
+                rounds: 1,
+                ..start.ended(End::Solved)
+            }
         }
         Node::Unary(_) | Node::Binary(..) => turns(formula, order, words, values, start, budget),
     }
