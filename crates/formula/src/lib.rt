@@ -1,6 +1,6 @@
 #![tactic(auto)]
-// The graph file: where its formula stands, the record of a node, the node. No function of this crate has a `requires`, and no
-// crate above it reads a byte of the file.
+// The graph file: where its formula stands, the record of a node, the node. No function of this crate has a `requires`, and the
+// crates above it read the file's bytes by its functions alone.
 ghost use Rattle.std.specs.Prelude.{◌≡◌};
 ghost use Rattle.formula.specs.Graph.{node_is};
 ghost use Rattle.formula.specs.View.{symbol_of, operand_of, operands_of, is_leaf};
