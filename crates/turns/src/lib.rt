@@ -142,7 +142,8 @@ fn turns(
 ) -> Outcome
     ensures { out_of result values.new ≡ run_from (play_along one (graph formula.now) order.now words.now) (budget - s.steps) (st_of s values.old) }
 {
-    // The paper's sentence, and so no `for`: "Before each step, used steps = budget ends it as Spent."
+    // The paper's sentence, and so no `for`: "Before each step, used steps = budget ends it as Spent." The edits budget_once_a_round and
+    // one_step_too_many speak of it.
     while s.steps < budget {
         match take_turn(formula, order, words, values, s) {
             ControlFlow::Break(outcome) => return outcome,
