@@ -6,14 +6,14 @@ abbrev pub written : Option ℕ → List ℕ → List ℕ
 written (Some v) out = set (set out 0 1) 1 v
 written None out = set (set out 0 0) 1 0
 
--- fields from a place on
+-- fields from place i on, one after the other
 abbrev pub laid : List ℕ → ℕ → List ℕ → List ℕ
 laid [] i out = out
 laid (v ∷ vs) i out = laid vs (i + 1) (set out i v)
 
 -- three entries, six entries
 abbrev pub three : ℕ → ℕ → ℕ → List ℕ → List ℕ
-three a b c out = set (set (set out 0 a) 1 b) 2 c
+three a b c = laid (a ∷ b ∷ c ∷ []) 0
 
 abbrev pub six : ℕ → ℕ → ℕ → ℕ → ℕ → ℕ → List ℕ → List ℕ
-six a b c d e f out = set (set (set (three a b c out) 3 d) 4 e) 5 f
+six a b c d e f = laid (a ∷ b ∷ c ∷ d ∷ e ∷ f ∷ []) 0
