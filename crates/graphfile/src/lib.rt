@@ -10,6 +10,13 @@ use std::rt::Files;
 // The room that a program lends for the file: a byte more than a graph file may have shows that it has more.
 pub const FILE_ROOM: usize = 65537;
 
+// A buffer of that length.
+pub fn file_room() -> [u8; FILE_ROOM]
+    ensures { 65537 ≡ length result }
+{
+    [0; FILE_ROOM]
+}
+
 // One read: how many bytes it gave, 0 at the end and where it fails.
 fn read_some<R: Read>(source: &mut R, buffer: &mut [u8]) -> usize
     ensures within { result ≤ length buffer.new }

@@ -1,7 +1,7 @@
 #![tactic(auto)]
 // Replays a fixed list of answers, those of the original Rust and of a plain reading of the documents (oracle/README.md, "The list of
 // answers"), against the proved crates, with no Rust at hand. It stops at the first that differs.
-ghost use Rattle.std.specs.Prelude.{◌≤◌};
+ghost use Rattle.std.specs.Prelude.{◌≡◌, ◌≤◌, length};
 
 use formula::bytes::u32_at;
 use graphfile::read_full;
@@ -19,6 +19,13 @@ fn part(s: &[u8], at: usize, k: usize) -> &[u8] {
 // Field k of an entry's head; there are twelve, and kinds, rules, operators and sides are numbers in the list as they are for C.
 fn field(head: &[u8], k: u32) -> u64 {
     u32_at(head, k.saturating_mul(4)) as u64
+}
+
+// Room for the words or the values of an entry.
+fn lent() -> [u64; 16]
+    ensures { 16 ≡ length result }
+{
+    [u64::MAX; 16]
 }
 
 // A search in the lent values: the answer's six numbers are fields 6 to 11, and the values afterwards are those of the list.
@@ -64,8 +71,7 @@ fn rule_agrees(head: &[u8], words: &[u64], s: u64, t: u64, answer: u64) -> bool 
 
 fn by_kind(head: &[u8], file: &[u8], words: &[u64], given: &[u64]) -> bool {
     if field(head, 0) == 0 {
-        // What the list lends for values.
-        let mut values = [u64::MAX; 16];
+        let mut values = lent();
         let n = given.len().min(16);
         return search_agrees(head, file, words, given, &mut values[..n]);
     }
@@ -77,8 +83,8 @@ fn by_kind(head: &[u8], file: &[u8], words: &[u64], given: &[u64]) -> bool {
 
 // Whether an entry agrees: its head, and behind it f bytes of file, w words and the values.
 fn agrees(head: &[u8], body: &[u8], f: u32, w: u32) -> bool {
-    let mut words = [0; 16];
-    let mut given = [0; 16];
+    let mut words = lent();
+    let mut given = lent();
     let words_at = f as usize;
     let length = 8 * (w as usize);
     let k = words_from(part(body, words_at, length), &mut words);

@@ -5,7 +5,7 @@ ghost use Rattle.std.specs.Prelude.{◌≤◌, length};
 ghost use Rattle.text.specs.Text.{WroteUpTo};
 ghost use Rattle.retrylist.specs.Printed.{printed};
 
-use graphfile::{FILE_ROOM, read_graph};
+use graphfile::{file_room, read_graph};
 use std::io;
 
 // Everything that is printed.
@@ -20,7 +20,7 @@ fn respond(file: &[u8], out: &mut [u8]) -> usize
 }
 
 fn main(rt: HostRuntime) -> io::Result<()> {
-    let mut file = [0; FILE_ROOM];
+    let mut file = file_room();
     // No listing is longer: refusal 14 never occurs.
     let mut out = [0; 164000];
     let n = read_graph(&rt, &mut file);

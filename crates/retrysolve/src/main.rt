@@ -1,7 +1,7 @@
 #![tactic(auto)]
 // The program: reads the file `graph` and the words on standard input, and prints the answer. All but the reading and writing is
 // `respond`, whose contract says what is printed.
-ghost use Rattle.std.specs.Prelude.{◌+◌, ◌*◌};
+ghost use Rattle.std.specs.Prelude.{◌≡◌, ◌+◌, ◌*◌, length};
 ghost use Rattle.text.specs.Text.{WroteUpTo};
 ghost use Rattle.formula.specs.View.{graph};
 ghost use Rattle.rules.specs.One.{one};
@@ -10,8 +10,15 @@ ghost use Rattle.intake.specs.Words.{up_to, words_of};
 ghost use Rattle.retrysolve.specs.Printed.{budget, text_of, printed_with, printed};
 
 use formula::FormulaView;
-use graphfile::{FILE_ROOM, read_full, read_graph};
+use graphfile::{file_room, read_full, read_graph};
 use std::io;
+
+// Room for 4,096 words.
+fn input_room() -> [u8; 32768]
+    ensures { 32768 ≡ length result }
+{
+    [0; 32768]
+}
 
 // The answer to an accepted file, found in the lent values.
 fn answer_to(formula: &FormulaView, words: &[u64], values: &mut [u64], out: &mut [u8]) -> usize
@@ -46,9 +53,8 @@ fn respond(file: &[u8], input: &[u8], out: &mut [u8]) -> usize
 }
 
 fn main(rt: HostRuntime) -> io::Result<()> {
-    let mut file = [0; FILE_ROOM];
-    // 4,096 words.
-    let mut input = [0; 32768];
+    let mut file = file_room();
+    let mut input = input_room();
     // A first line, and a line for each of 4,000 inputs.
     let mut out = [0; 216085];
     let n = read_graph(&rt, &mut file);
