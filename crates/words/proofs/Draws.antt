@@ -13,8 +13,8 @@ use borrow.Author.Tests.{ltb-true, ltb-false, lt-ltb, le-ltb, eqb-true, eqb-fals
 use Rattle.std.specs.Prelude.{Some, None}
 use Rattle.laws.specs.Pick.{pick}
 use Rattle.words.specs.declared.WordSource.{WordSource}
-use Rattle.words.specs.Words.{Words, Place, Drawn, Draw, from, draw_at, map_draw, even_at, in_range, range_at, coin_of, coin_at, chosen_of, choosing_at, two_from, two_at, not_at}
-use Rattle.words.proofs.Laws.{same_drawn, none_drawn}
+use Rattle.words.specs.Words.{Words, Place, Drawn, Draw, from, draw_at, map_draw, redraw_at, even_at, in_range, range_at, coin_of, coin_at, chosen_of, choosing_at, two_from, two_at, not_at}
+use Rattle.words.proofs.Laws.{same_drawn, none_drawn, redraw_past, redraw_taken, redraw_passed}
 use Rattle.words.proofs.Redraw.{redraw_is, redraw_longer}
 
 -- every word of a lent list is one of 64 bits
@@ -223,6 +223,19 @@ no_word ws n e = go (ltb n (length ws)) refl e
     go : (b : Bool) → ltb n (length ws) ≡ b → ◌≡◌ {A = Draw} (pick b (Some (get_or ws n 0, from (n + 1))) None) None → length ws ≤ n
     go true t f = none_drawn (get_or ws n 0) (from (n + 1)) (sym f)
     go false t f = ltb-false n (length ws) t
+
+-- a word that is drawn, and kept or passed over
+pub drawn_dry : (drop : ℕ → Bool) (ws : Words) (n : ℕ) → draw_at ws n ≡ None → None ≡ redraw_at drop ws n
+drawn_dry drop ws n e = redraw_past drop ws n (no_word ws n e)
+
+module _ (drop : ℕ → Bool) (ws : Words) (n w : ℕ) (q : WordSource) (d : draw_at ws n ≡ Some (w, q)) where
+  pub drawn_taken : drop w ≡ false → Some (w, q) ≡ redraw_at drop ws n
+  drawn_taken f =
+      let h = draw_is ws n w q d in
+      ap (λ (x : ℕ). Some (x, q)) h.1 ∙ ap (λ (s : WordSource). Some (get_or ws n 0, s)) h.2 ∙ redraw_taken drop ws n h.0 (ap drop (sym h.1) ∙ f)
+
+  pub drawn_passed : drop w ≡ true → redraw_at drop ws q.at ≡ redraw_at drop ws n
+  drawn_passed f = let h = draw_is ws n w q d in ap (λ (s : WordSource). redraw_at drop ws s.at) h.2 ∙ redraw_passed drop ws n h.0 (ap drop (sym h.1) ∙ f)
 
 some_not : (a b : ℕ) → (a ≡ 0 → b ≡ 0 → ⊥) → (not (eqb a 0) || not (eqb b 0)) ≡ true
 some_not a b f = grind (arith, nat_tests)

@@ -44,10 +44,15 @@ impl WordSource {
         requires { F.IsAlwaysCallable kept }
         ensures { (drop : ℕ → Bool) → KeepsRest (F.post kept) drop → result ≡ redraw_at drop words.now self.at }
     {
-        let rest = words.get(self.at..)?;
-        let passed = rest.iter().position(|&w| kept(w))?;
-        let at = self.at + passed;
-        Some((words[at], WordSource { at: at + 1 }))
+        // As in `two`; by `position`, or a `for` over the places, a word that is passed over takes twice the time.
+        let mut source = self;
+        loop {
+            let (w, next) = source.draw(words)?;
+            if kept(w) {
+                return Some((w, next));
+            }
+            source = next;
+        }
     }
 
     // The first word that a range of size m accepts.

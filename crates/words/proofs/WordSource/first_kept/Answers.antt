@@ -1,24 +1,16 @@
--- `words::WordSource::first_kept` meets its contract: `position` finds the first of the words from `self.at` on that is not dropped.
--- Assumes nothing.
-use Rattle.std.proofs.Common.{rules, ◌≡◌, true, false}
-use Rattle.std.proofs.lemmas.Option.{MatchOption-at_some, MatchOption-at_none}
-use Rattle.std.proofs.lemmas.Iterator.{IsFirst-from_position, YieldsList-from_slice}
-use borrow.Author.Tests.{tests}
-use Rattle.words.proofs.Laws.{redraw_past}
-use Rattle.words.proofs.Redraw.{first_is, none_is}
+-- `words::WordSource::first_kept` meets its contract: what the source now answers is what the first one answers. Assumes nothing.
+use borrow.Author.Rules.{rules}
+use Rattle.words.proofs.Draws.{draw_forward, drawn_dry, drawn_taken, drawn_passed}
 use Rattle.words.proofs.WordSource.first_kept.Goals as goal
 
-pub returns-in_err-rest : goal.returns-in_err-rest
-returns-in_err-rest g c drop is = search (redraw_past, rules)
+pub returns-in_err-w : goal.returns-in_err-w
+returns-in_err-w g c drop is = search (drawn_dry, rules)
 
-pub returns-in_err-passed : goal.returns-in_err-passed
-returns-in_err-passed g c drop is =
-    let first = IsFirst-from_position _ _ _ (λ w. drop w ≡ false) (λ w. drop w ≡ true) c.position.ensures.ran (YieldsList-from_slice c.in_ok-rest.rest.now cc) (λ x q k. search (rules, tests)) (λ x q k. search (rules, tests)) in
-    let none = MatchOption-at_none _ _ c.in_err-passed.was first in
-    search (none_is, rules)
+pub returns-then-kept : goal.returns-then-kept
+returns-then-kept g c drop is = search (drawn_taken, rules)
 
-pub returns : goal.returns
-returns g c drop is =
-    let first = IsFirst-from_position _ _ _ (λ w. drop w ≡ false) (λ w. drop w ≡ true) c.position.ensures.ran (YieldsList-from_slice c.in_ok-rest.rest.now cc) (λ x q k. search (rules, tests)) (λ x q k. search (rules, tests)) in
-    let some = MatchOption-at_some _ _ c.in_ok-passed.passed c.in_ok-passed.was first in
-    search (first_is, rules)
+pub loop-kept-smaller : goal.loop-kept-smaller
+loop-kept-smaller g c = search (draw_forward, rules)
+
+pub loop-kept-preserved : goal.loop-kept-preserved
+loop-kept-preserved g c drop is = search (drawn_passed, rules)
