@@ -8,6 +8,7 @@ use mathlib.Core.List.{List, [], ◌∷◌, ◌++◌}
 use mathlib.Core.Bool.{Bool, true, false, ◌&&◌}
 use native.Mathlib.Omega.{arith}
 use native.Mathlib.Decide.{dec_le}
+use native.Mathlib.Numerals.{add-one}
 use Rattle.std.proofs.Common.{add-zero, zero-add}
 use lib.ListN.{length, get_or, take, drop, length-drop, drop_of_length-le}
 use lib.Seq.{take_all}
@@ -35,6 +36,18 @@ zeros_is s a zero = refl
 zeros_is s a (suc k) =
     ap (list_all (λ i. eqb (get_or s (a + i) 0) 0)) (range_last 0 k) ∙ list_all-append _ (range_with_len 0 k) ((0 + k) ∷ [])
     ∙ rw (zeros_is s a k, and_true, zero-add)
+
+-- the first i of the k bytes
+pub zeros_none : (s : File) (a : ℕ) → true ≡ zeros s a 0
+unfolding zeros
+zeros_none s a = refl
+
+pub zeros_more : (s : File) (a i : ℕ) (b : Bool) (v : ℕ) → b ≡ zeros s a i → v ≡ get_or s (a + i) 0 → (b && eqb v 0) ≡ zeros s a (i + 1)
+unfolding zeros
+zeros_more s a i b v h e = rw (add-one, h, e)
+
+pub zeros_all : (s : File) (a i k : ℕ) (b : Bool) → b ≡ zeros s a i → i ≤ k → k ≤ i → b ≡ zeros s a k
+zeros_all s a i k b h p q = let e : i ≡ k = omega arith in h ∙ ap (zeros s a) e
 
 -- an id that is not below the count has no record
 pub record_none : (f : File) (m : Formula) (i : ℕ) → m.count ≤ i → [] ≡ record_at f m i

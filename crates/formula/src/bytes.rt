@@ -43,5 +43,10 @@ pub fn u64_at(s: &[u8], at: u32) -> u64
 pub fn all_zero(s: &[u8], a: u32, k: u32) -> bool
     ensures { result ≡ zeros s.now a k }
 {
-    (0..k).all(|i| byte_at(s, a as usize + i as usize) == 0)
+    // Each byte is looked at, also after one that is not zero: with no branch on what a byte is, a whole file is checked faster.
+    let mut clear = true;
+    for i in 0..k {
+        clear &= byte_at(s, a as usize + i as usize) == 0;
+    }
+    clear
 }
