@@ -1,4 +1,5 @@
 use borrow.Author.Rules.{rules}
+use Rattle.formula.specs.File.{le64}
 use Rattle.intake.proofs.Words.{words_begin, words_more, words_end}
 use Rattle.intake.proofs.words_from.Goals as goal
 
@@ -6,6 +7,7 @@ pub loop-i-init : goal.loop-i-init
 loop-i-init c = words_begin _ _
 
 pub loop-i-preserved : goal.loop-i-preserved
+unfolding le64
 loop-i-preserved c = search (words_more, rules)
 
 pub returns-clause-out_after : goal.returns-clause-out_after
