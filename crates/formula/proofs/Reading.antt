@@ -38,15 +38,15 @@ zeros_is s a (suc k) =
     ∙ rw (zeros_is s a k, and_true, zero-add)
 
 -- the first i of the k bytes
-pub zeros_none : (s : File) (a : ℕ) → true ≡ zeros s a 0
+pub zeros_none : (s : List ℕ) (a : ℕ) → true ≡ zeros s a 0
 unfolding zeros
 zeros_none s a = refl
 
-pub zeros_more : (s : File) (a i : ℕ) (b : Bool) (v : ℕ) → b ≡ zeros s a i → v ≡ get_or s (a + i) 0 → (b && eqb v 0) ≡ zeros s a (i + 1)
+pub zeros_more : (s : List ℕ) (a i : ℕ) (b : Bool) (v : ℕ) → b ≡ zeros s a i → v ≡ get_or s (a + i) 0 → (b && eqb v 0) ≡ zeros s a (i + 1)
 unfolding zeros
 zeros_more s a i b v h e = rw (add-one, h, e)
 
-pub zeros_all : (s : File) (a i k : ℕ) (b : Bool) → b ≡ zeros s a i → i ≤ k → k ≤ i → b ≡ zeros s a k
+pub zeros_all : (s : List ℕ) (a i k : ℕ) (b : Bool) → b ≡ zeros s a i → i ≤ k → k ≤ i → b ≡ zeros s a k
 zeros_all s a i k b h p q = let e : i ≡ k = omega arith in h ∙ ap (zeros s a) e
 
 -- an id that is not below the count has no record

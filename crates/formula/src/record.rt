@@ -58,7 +58,8 @@ fn port(r: &[u8]) -> Port
     }
 }
 
-// What a record of this kind holds. (Inlined: the check of a file asks a node for its operands alone, so most of it falls away there.)
+// What a record of this kind holds. (Inlined: the check of a file asks a node for its width and its operands alone, and there the reading
+// of values and labels falls away.)
 #[inline(always)]
 pub fn decode(k: Option<Kind>, r: &[u8]) -> Node
     ensures { node_is result ≡ node_by k r.now }

@@ -44,7 +44,7 @@ impl WordSource {
         requires { F.IsAlwaysCallable kept }
         ensures { (drop : ℕ → Bool) → KeepsRest (F.post kept) drop → result ≡ redraw_at drop words.now self.at }
     {
-        // As in `two`; by `position`, or a `for` over the places, a word that is passed over takes twice the time.
+        // A loop, as in `two`: by `position`, or by a `for` over the places, a word that is passed over takes twice the time.
         let mut source = self;
         loop {
             let (w, next) = source.draw(words)?;
