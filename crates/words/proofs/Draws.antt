@@ -14,7 +14,7 @@ use Rattle.std.specs.Prelude.{Some, None}
 use Rattle.laws.specs.Pick.{pick}
 use Rattle.words.specs.declared.WordSource.{WordSource}
 use Rattle.words.specs.Words.{Words, Place, Drawn, Draw, from, draw_at, map_draw, redraw_at, even_at, in_range, range_at, coin_of, coin_at, chosen_of, choosing_at, two_from, two_at, not_at}
-use Rattle.words.proofs.Laws.{same_drawn, none_drawn, redraw_past, redraw_taken, redraw_passed}
+use Rattle.words.proofs.Laws.{same_drawn, none_drawn, draw_word, redraw_past, redraw_taken, redraw_passed}
 use Rattle.words.proofs.Redraw.{redraw_is, redraw_longer}
 
 -- every word of a lent list is one of 64 bits
@@ -275,3 +275,46 @@ module _ (ws : Words) (n low : ℕ) (p : WordSource) (d : draw_at ws n ≡ Some 
 pub two_over : (ws : Words) (n : ℕ) → draw_at ws n ≡ None → None ≡ two_at ws n
 unfolding two_at two_from
 two_over ws n e = let z : (length ws - n) / 2 ≡ 0 = omega (arith, no_word ws n e) in rw z
+
+-- a pair by its second word
+pub pair_past : (ws : Words) (n : ℕ) → length ws < n → None ≡ two_at ws n
+unfolding two_at two_from
+pair_past ws n l = let z : (length ws - n) / 2 ≡ 0 = omega arith in rw z
+
+pub pair_short : (ws : Words) (n : ℕ) → draw_at ws (n + 1) ≡ None → None ≡ two_at ws n
+unfolding two_at two_from
+pair_short ws n e = let z : (length ws - n) / 2 ≡ 0 = omega (arith, no_word ws (n + 1) e) in rw z
+
+module _ (ws : Words) (n high : ℕ) (q : WordSource) (d : draw_at ws (n + 1) ≡ Some (high, q)) where
+  by_q : q.at ≡ n + 2
+  by_q = ap (λ (s : WordSource). s.at) (draw_is ws (n + 1) high q d).2 ∙ omega arith
+
+  pub pair_within : n < length ws
+  pair_within = omega (arith, (draw_is ws (n + 1) high q d).0)
+
+  pub pair_inside : q.at ≤ length ws
+  pair_inside = omega (arith, by_q, (draw_is ws (n + 1) high q d).0)
+
+  pub pair_forward : Forward ws n q.at
+  pair_forward = record { moved = omega (arith, by_q); within = pair_inside }
+
+  -- the first word drawn
+  module _ (low : ℕ) (p : WordSource) (e : draw_at ws n ≡ Some (low, p)) where
+    second_drawn : draw_at ws p.at ≡ Some (high, q)
+    second_drawn = let a : p.at ≡ n + 1 = ap (λ (s : WordSource). s.at) (draw_is ws n low p e).2 in ap (draw_at ws) a ∙ d
+
+    pub both_taken : (low ≡ 0 → high ≡ 0 → ⊥) → Some ((low, high), q) ≡ two_at ws n
+    both_taken f = two_taken ws n low p e high q second_drawn f
+
+    pub both_again : low ≡ 0 → high ≡ 0 → two_at ws q.at ≡ two_at ws n
+    both_again a b = two_again ws n low p e high q second_drawn a b
+
+  -- or read at its place
+  first_drawn : draw_at ws n ≡ Some (get_or ws n 0, from (n + 1))
+  first_drawn = sym (draw_word ws n pair_within)
+
+  pub pair_taken : (get_or ws n 0 ≡ 0 → high ≡ 0 → ⊥) → Some ((get_or ws n 0, high), q) ≡ two_at ws n
+  pair_taken f = both_taken (get_or ws n 0) (from (n + 1)) first_drawn f
+
+  pub pair_again : get_or ws n 0 ≡ 0 → high ≡ 0 → two_at ws q.at ≡ two_at ws n
+  pair_again a b = both_again (get_or ws n 0) (from (n + 1)) first_drawn a b

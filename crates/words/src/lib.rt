@@ -95,13 +95,19 @@ impl WordSource {
     }
 
     // Redrawn while both are 0; one value, so that Dry takes none of its words.
+    #[tactic(auto, using(crate::proofs::Draws::pair_within, crate::proofs::Draws::two_over))]
     pub fn two(self, words: &[u64]) -> Drawn<(u64, u64)>
         ensures { result ≡ two_at words.now self.at }
     {
+        if words.len() < self.at {
+            return None;
+        }
         let mut source = self;
         loop {
-            let (low, next) = source.draw(words)?;
-            let (high, next) = next.draw(words)?;
+            // The second word is there only where the first is: one test of the length for both.
+            let second = WordSource { at: source.at + 1 };
+            let (high, next) = second.draw(words)?;
+            let low = words[source.at];
             if low != 0 || high != 0 {
                 return Some(((low, high), next));
             }
